@@ -1,0 +1,4 @@
+pub mod Changes
+pub mod Finding
+pub mod Fronts
+pub mod Relations

@@ -1,0 +1,6 @@
+pub mod Refusals
+pub mod Senses
+pub mod Forms
+pub mod Machine
+pub mod Meaning
+pub mod Reading

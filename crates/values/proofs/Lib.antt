@@ -1,0 +1,4 @@
+pub mod Copies
+pub mod Finding
+pub mod Lookups
+pub mod Mapped
