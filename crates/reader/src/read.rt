@@ -1,8 +1,22 @@
 // Reading one form.
 ghost use mathlib.Core.Path.{_≡_};
+ghost use mathlib.Core.Bool.{true, false};
+ghost use Prim.Native.Nat.{_≤_};
+ghost use lib.ListN.{length};
+ghost use Rattle.std.specs.Options.{mapped};
+ghost use Rattle.std.specs.Results.{Cases};
+ghost use lib.Chars.{codes};
+ghost use Rattle.std.specs.shelf.Text.{sameBytes};
+ghost use Rattle.words.specs.Kinds.{kindOf};
 ghost use Rattle.words.specs.Words.{rest, textOf};
 ghost use Rattle.values.specs.Naming.{held};
+ghost use Rattle.rules.specs.Attributes.{declared};
+ghost use Rattle.rules.specs.Bases.{declaringClasses, sealedClasses};
 ghost use Rattle.rules.specs.Declarations.{classesOf};
+ghost use Rattle.reader.specs.Machine.{opening, run};
+ghost use Rattle.reader.specs.Meaning.{actOf, entryOf, classIn, actIn, Ran, Grows};
+ghost use Rattle.reader.specs.Senses.{sort};
+ghost use Rattle.reader.specs.Reading.{Reads, longest, TooLong, declaresNext, ReadsDeclaration, ReadsCommand};
 use crate::form::Command;
 use crate::form::Phase;
 use crate::form::Taken;
@@ -29,7 +43,11 @@ fn read_words(
     words: &mut Words,
     names: &mut Names,
     classes: &Classes,
-) -> Result<Taken, Refusal> {
+) -> Result<Taken, Refusal>
+    ensures ran { λ r. ⌜ Ran (length (textOf (now (words .entry)))) r (held (now (names .exit))) (rest (now (words .exit))) (run phase (classesOf (now (classes .entry))) (held (now (names .entry))) opening (rest (now (words .entry)))) ⌝ }
+    ensures names { λ _. ⌜ Grows (held (now (names .entry))) (held (now (names .exit))) ⌝ }
+    ensures text { λ _. ⌜ textOf (now (words .exit)) ≡ textOf (now (words .entry)) ⌝ }
+{
     let end = words.text().len();
     let mut state = State::Opening;
     loop {
@@ -56,7 +74,10 @@ fn read_form(
     words: &mut Words,
     names: &mut Names,
     classes: &Classes,
-) -> Result<Taken, Refusal> {
+) -> Result<Taken, Refusal>
+    ensures reads { λ r. ⌜ Reads phase (classesOf (now (classes .entry))) (held (now (names .entry))) (rest (now (words .entry))) (length (textOf (now (words .entry)))) r (held (now (names .exit))) (rest (now (words .exit))) ⌝ }
+    ensures text { λ _. ⌜ textOf (now (words .exit)) ≡ textOf (now (words .entry)) ⌝ }
+{
     let count = names.count();
     let mut ahead = *words;
     match read_words(phase, &mut ahead, names, classes) {
@@ -71,7 +92,10 @@ fn read_form(
     }
 }
 
-fn too_long(words: &Words) -> Result<(), Refusal> {
+// Refuses a text that is too long.
+fn check_length(words: &Words) -> Result<(), Refusal>
+    ensures { λ r. ⌜ Cases r (λ _. length (textOf (now (words .entry))) ≤ longest) (λ x. TooLong (length (textOf (now (words .entry)))) x) ⌝ }
+{
     if words.text().len() > LONGEST_TEXT {
         return Err(Refusal {
             cause: Cause::OverLimit,
@@ -82,25 +106,41 @@ fn too_long(words: &Words) -> Result<(), Refusal> {
 }
 
 // Whether the next words are `(` and `literalize`.
-fn declaration_comes(words: &Words) -> bool {
+fn declaration_comes(words: &Words) -> bool
+    ensures { λ r. ⌜ r ≡ declaresNext (rest (now (words .entry))) ⌝ }
+{
     let mut ahead = *words;
     let Some(first) = ahead.next() else {
-        return false;
-    };
-    let Token::Open = first.token else {
         return false;
     };
     let Some(second) = ahead.next() else {
         return false;
     };
-    match second.token {
+    is_open(&first.token) && is_literalize(&second.token)
+}
+
+fn is_open(token: &Token) -> bool
+    ensures { λ r. ⌜ r ≡ sort (kindOf (now (token .entry))) true false false (λ _. false) (λ _. false) false false ⌝ }
+{
+    match token {
+        Token::Open => true,
+        _ => false,
+    }
+}
+
+fn is_literalize(token: &Token) -> bool
+    ensures { λ r. ⌜ r ≡ sort (kindOf (now (token .entry))) false false false (λ w. sameBytes w (codes "literalize")) (λ _. false) false false ⌝ }
+{
+    match token {
         Token::Symbol(word) => is(word, b"literalize"),
         _ => false,
     }
 }
 
 // The class that a form declares.
-fn class_of(form: Taken) -> Option<Class> {
+fn class_of(form: Taken) -> Option<Class>
+    ensures { λ r. ⌜ mapped declared r ≡ classIn (entryOf form) ⌝ }
+{
     match form {
         Taken::Declaration(class) => Some(class),
         Taken::Order(_) => None,
@@ -108,20 +148,25 @@ fn class_of(form: Taken) -> Option<Class> {
 }
 
 // What a form commands.
-fn command_of(form: Taken) -> Option<Command> {
+fn command_of(form: Taken) -> Option<Command>
+    ensures { λ r. ⌜ mapped actOf r ≡ actIn (entryOf form) ⌝ }
+{
     match form {
         Taken::Declaration(_) => None,
         Taken::Order(command) => Some(command),
     }
 }
 
-// Reads a declaration into the base; false where what comes next is none, or nothing.
+// Reads a declaration into the base; false where what comes next is none, or nothing is left.
 pub fn read_declaration(
     words: &mut Words,
     names: &mut Names,
     base: &mut Declaring,
-) -> Result<bool, Refusal> {
-    too_long(words)?;
+) -> Result<bool, Refusal>
+    ensures reads { λ r. ⌜ ReadsDeclaration (length (textOf (now (words .entry)))) (declaringClasses (now (base .entry))) (held (now (names .entry))) (rest (now (words .entry))) r (declaringClasses (now (base .exit))) (held (now (names .exit))) (rest (now (words .exit))) ⌝ }
+    ensures text { λ _. ⌜ textOf (now (words .exit)) ≡ textOf (now (words .entry)) ⌝ }
+{
+    check_length(words)?;
     if !declaration_comes(words) {
         return Ok(false);
     }
@@ -137,8 +182,11 @@ pub fn read_command(
     words: &mut Words,
     names: &mut Names,
     base: &Sealed,
-) -> Result<Option<Command>, Refusal> {
-    too_long(words)?;
+) -> Result<Option<Command>, Refusal>
+    ensures reads { λ r. ⌜ ReadsCommand (length (textOf (now (words .entry)))) (sealedClasses (now (base .entry))) (held (now (names .entry))) (rest (now (words .entry))) r (held (now (names .exit))) (rest (now (words .exit))) ⌝ }
+    ensures text { λ _. ⌜ textOf (now (words .exit)) ≡ textOf (now (words .entry)) ⌝ }
+{
+    check_length(words)?;
     let mut ahead = *words;
     if ahead.next().is_none() {
         return Ok(None);

@@ -1,2 +1,3 @@
 pub mod Attributes
+pub mod Bases
 pub mod Declarations

@@ -5,6 +5,7 @@ ghost use mathlib.Core.List.{[]};
 ghost use Rattle.std.specs.Vec.{made};
 ghost use Rattle.rules.specs.Attributes.{declared};
 ghost use Rattle.rules.specs.Declarations.{classesOf, answerDeclare, afterDeclare};
+ghost use Rattle.rules.specs.Bases.{declaringClasses, enteringClasses, sealedClasses};
 use crate::class::Class;
 use crate::class::ClassRefusal;
 use crate::classes::Classes;
@@ -32,29 +33,30 @@ pub struct Sealed {
 impl Declaring {
     // A new base.
     pub fn new(heap: Global) -> Result<Declaring, AllocError>
-        ensures { λ r. ⌜ made r (λ b. classesOf (b .classes) ≡ []) ⌝ }
+        ensures { λ r. ⌜ made r (λ b. declaringClasses b ≡ []) ⌝ }
     {
         let classes = Classes::new(heap)?;
         Ok(Declaring { classes })
     }
 
+    // The classes that are declared so far.
     pub fn classes(&self) -> &Classes
-        ensures { λ r. ⌜ now r ≡ now (self .entry) .classes ⌝ }
+        ensures { λ r. ⌜ classesOf (now r) ≡ declaringClasses (now (self .entry)) ⌝ }
     {
         &self.classes
     }
 
     // One class more.
     pub fn declare(&mut self, class: Class) -> Result<(), ClassRefusal>
-        ensures answer { λ r. ⌜ r ≡ answerDeclare (classesOf (now (self .entry) .classes)) (declared class) ⌝ }
-        ensures after { λ _. ⌜ classesOf (now (self .exit) .classes) ≡ afterDeclare (classesOf (now (self .entry) .classes)) (declared class) ⌝ }
+        ensures answer { λ r. ⌜ r ≡ answerDeclare (declaringClasses (now (self .entry))) (declared class) ⌝ }
+        ensures after { λ _. ⌜ declaringClasses (now (self .exit)) ≡ afterDeclare (declaringClasses (now (self .entry))) (declared class) ⌝ }
     {
         self.classes.declare(class)
     }
 
     // No class is declared from here on.
     pub fn enter(self) -> Entering
-        ensures { λ r. ⌜ r .classes ≡ self .classes ⌝ }
+        ensures { λ r. ⌜ enteringClasses r ≡ declaringClasses self ⌝ }
     {
         Entering {
             classes: self.classes,
@@ -65,7 +67,7 @@ impl Declaring {
 impl Entering {
     // No production is entered from here on.
     pub fn seal(self) -> Sealed
-        ensures { λ r. ⌜ r .classes ≡ self .classes ⌝ }
+        ensures { λ r. ⌜ sealedClasses r ≡ enteringClasses self ⌝ }
     {
         Sealed {
             classes: self.classes,
@@ -74,8 +76,9 @@ impl Entering {
 }
 
 impl Sealed {
+    // The declared classes.
     pub fn classes(&self) -> &Classes
-        ensures { λ r. ⌜ now r ≡ now (self .entry) .classes ⌝ }
+        ensures { λ r. ⌜ classesOf (now r) ≡ sealedClasses (now (self .entry)) ⌝ }
     {
         &self.classes
     }

@@ -1,8 +1,9 @@
 -- Looking for the first of a row that passes a test. Assumes nothing.
-use mathlib.Core.Path.{_≡_, sym, _∙_}
+use mathlib.Core.Path.{_≡_, sym, ap, _∙_}
 use mathlib.Core.Bool.{Bool, true, false, cond}
-use mathlib.Core.List.{List, [], _∷_}
+use mathlib.Core.List.{List, [], _∷_, _++_}
 use Prim.Native.Nat.{ℕ, zero, suc, _+_, _≤_, _<_}
+use native.Mathlib.Nat.{add-zero}
 use native.Mathlib.Omega.{arith}
 use lib.ListN.{length, getD, drop}
 use Rattle.std.proofs.shelf.Lists.{at-drop-more, at-drop-all}
@@ -44,3 +45,21 @@ module _ {X : Type 0} (test : X → Bool) (d : X) where
       elsewhere : test x ≡ false → ((k : ℕ) → k < length xs → test (getD xs k d) ≡ false) → (k : ℕ) → k < suc (length xs) → test (getD (x ∷ xs) k d) ≡ false
       elsewhere t f zero h = t
       elsewhere t f (suc k) h = f k (omega arith)
+
+  -- one that was found stays found where others come behind
+  pub found-before : (xs ys : List X) (n i : ℕ) → firstFrom test n xs ≡ Some i → firstFrom test n (xs ++ ys) ≡ Some i
+  found-before [] ys n i = λ e. let z : _≡_ {A = ℕ} 0 1 = cc in absurd (omega arith)
+  found-before (x ∷ xs) ys n i = go (test x) (found-before xs ys (n + 1) i)
+    where
+      go : (b : Bool) → (firstFrom test (n + 1) xs ≡ Some i → firstFrom test (n + 1) (xs ++ ys) ≡ Some i) → cond b (Some n) (firstFrom test (n + 1) xs) ≡ Some i → cond b (Some n) (firstFrom test (n + 1) (xs ++ ys)) ≡ Some i
+      go true f e = e
+      go false f e = f e
+
+  -- the last is found where no other is
+  pub found-last : (xs : List X) (y : X) (n : ℕ) → firstFrom test n xs ≡ None → test y ≡ true → firstFrom test n (xs ++ y ∷ []) ≡ Some (n + length xs)
+  found-last [] y n = λ e t. cond-true (test y) _ _ t ∙ ap Some (sym (add-zero n))
+  found-last (x ∷ xs) y n = λ e t. go (test x) (found-last xs y (n + 1)) e t
+    where
+      go : (b : Bool) → (firstFrom test (n + 1) xs ≡ None → test y ≡ true → firstFrom test (n + 1) (xs ++ y ∷ []) ≡ Some (n + 1 + length xs)) → cond b (Some n) (firstFrom test (n + 1) xs) ≡ None → test y ≡ true → cond b (Some n) (firstFrom test (n + 1) (xs ++ y ∷ [])) ≡ Some (n + suc (length xs))
+      go true f e t = let z : _≡_ {A = ℕ} 0 1 = cc in absurd (omega arith)
+      go false f e t = let s : n + 1 + length xs ≡ n + suc (length xs) = omega arith in f e t ∙ ap Some s

@@ -90,3 +90,11 @@ room ns w h k l = ap (λ b. b && nameable w) (lt-ltb (length ns) 256 h) ∙ ap (
 
 pub counted : (n : Names) → length (held n) ≡ vec-len (n .list)
 counted n = length-map (vec-items (n .list)) spelling ∙ sym (n .list .ok .0)
+
+-- there is one name at least
+pub some-name : (n : Names) → 1 ≤ length (held n)
+some-name n = some (held n) (n .nil)
+  where
+    some : (ns : List (List ℕ)) → getD ns 0 [] ≡ codes "nil" → 1 ≤ length ns
+    some [] e = let z : _≡_ {A = ℕ} 0 1 = cc in absurd (omega arith)
+    some (n ∷ ns) e = omega arith
