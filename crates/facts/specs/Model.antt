@@ -12,6 +12,7 @@ use Rattle.std.specs.declared.result.Result.the-variants.{Ok, Err}
 use Rattle.values.specs.declared.value.Value.{Value}
 use Rattle.values.specs.declared.element.Element.{Element}
 use Rattle.values.specs.Elements.{nil, fieldsOf}
+use Rattle.values.specs.Firsts.{firstFrom}
 use Rattle.facts.specs.declared.fact.Fact.{Fact}
 use Rattle.facts.specs.declared.refusal.MemoryRefusal.{MemoryRefusal}
 use Rattle.facts.specs.declared.refusal.MemoryRefusal.the-variants.{NoSuchTag, TagsUsedUp, Full}
@@ -44,8 +45,7 @@ valueAt fs i j = getD (fieldsAt fs i) j nil
 
 -- the first place that has the time tag, where the list's first place is numbered n
 abbrev pub findFrom : ℕ → List Fact → ℕ → Option ℕ
-findFrom n [] t = None
-findFrom n (f ∷ fs) t = cond (eqb (f .tag) t) (Some n) (findFrom (n + 1) fs t)
+findFrom n fs t = firstFrom (λ f. eqb (f .tag) t) n fs
 
 -- the first place that has the time tag
 abbrev pub findTag : List Fact → ℕ → Option ℕ

@@ -1,7 +1,8 @@
 -- From the turns of the code to what it answers. Assumes nothing.
 use mathlib.Core.Path.{_≡_, refl, sym, ap, subst, _∙_}
 use mathlib.Core.List.{List, [], _∷_, _++_, append-assoc}
-use Prim.Native.Nat.{ℕ, _≤_, max}
+use Prim.Native.Nat.{ℕ, _+_, _≤_, _<_, max}
+use native.Mathlib.Nat.{zero-add}
 use mathlib.Core.Bool.{Bool, true, false, cond, not, _||_}
 use lib.Dec.{leb}
 use Rattle.std.proofs.shelf.Tests.{cond-false}
@@ -23,10 +24,10 @@ use Rattle.reader.specs.declared.form.Taken.{Taken}
 use Rattle.reader.specs.declared.refusal.Cause.{Cause}
 use Rattle.reader.specs.declared.refusal.Refusal.{Refusal}
 use Rattle.reader.specs.Senses.{sense}
-use Rattle.reader.specs.Forms.{Form, declaration, make, remove, removeAll, listMemory, Allowed, Entry, declares, commands, numbered, classAt, judged, Clear, withAttributes, meant}
+use Rattle.reader.specs.Forms.{Form, declaration, make, remove, removeAll, listMemory, Allowed, Entry, declares, commands, numbered, classAt, Judged, judged, Clear, withAttributes, meant}
 use Rattle.reader.specs.Machine.{State, opening, onward, whole, fails, turned, Outcome, taken, stopped, onStep, run}
 use Rattle.reader.specs.Meaning.{entryOf, Grows, placeOf, classIn}
-use Rattle.reader.specs.Reading.{Takes, Broken, Stands, Reads}
+use Rattle.reader.specs.Reading.{Spells, Takes, Broken, Stands, Reads}
 use Rattle.reader.proofs.Sofar.{Stopped, Tells, told, stopped-none}
 
 -- a word that leads on
@@ -104,3 +105,20 @@ declare-taken cs ds es ns ms ls after (declares d) c q t h g =
     let is : c ≡ d = cc in
     (d, u, g ∙ ap (afterDeclare cs) is ∙ new-class cs ns d (u .form) (u .allowed) (u .clear) (u .entry))
 declare-taken cs ds es ns ms ls after (commands a) c q t h g = let z : _≡_ {A = ℕ} 0 1 = cc in absurd (omega arith)
+
+-- a form that was taken leaves fewer words
+spells-fewer : (js : List Judged) (ls after : List Lexeme) → Spells js ls after → length ls ≡ length js + length after
+spells-fewer [] ls after h = ap length h ∙ sym (zero-add (length after))
+spells-fewer (j ∷ js) [] after h = absurd h
+spells-fewer (j ∷ js) (l ∷ ls) after h = let r = spells-fewer js ls after (h .1) in omega arith
+
+some-words : (cs : List Declared) (ns : List (List ℕ)) (form : Form) → 0 < length (judged cs ns form)
+some-words cs ns (declaration w xs) = omega arith
+some-words cs ns (make w ss) = omega arith
+some-words cs ns (remove n) = omega arith
+some-words cs ns removeAll = omega arith
+some-words cs ns listMemory = omega arith
+
+pub takes-fewer : (ph : Phase) (cs : List Declared) (ns ms : List (List ℕ)) (ls after : List Lexeme) (e : Entry) → Takes ph cs ns ls e ms after → length after < length ls
+takes-fewer ph cs ns ms ls after e t =
+    omega (arith, spells-fewer (judged cs ns (t .form)) ls after (t .spelled), some-words cs ns (t .form))

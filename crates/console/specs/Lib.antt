@@ -1,0 +1,4 @@
+pub mod Printed
+pub mod Listings
+pub mod Performed
+pub mod Sessions
