@@ -11,7 +11,7 @@ use Rattle.std.specs.declared.option.Option.the-variants.{Some}
 use Rattle.std.specs.declared.result.Result.{Result}
 use Rattle.std.specs.declared.result.Result.the-variants.{Ok, Err}
 use Rattle.words.specs.Words.{Lexeme, wordsOf}
-use Rattle.facts.specs.Model.{Model, model}
+use Rattle.facts.specs.Model.{Model}
 use Rattle.rules.specs.Attributes.{Declared}
 use Rattle.reader.specs.declared.form.Command.{Command}
 use Rattle.reader.specs.declared.refusal.Refusal.{Refusal}
@@ -20,7 +20,7 @@ use Rattle.reader.specs.Forms.{declares, commands}
 use Rattle.reader.specs.Meaning.{actOf}
 use Rattle.reader.specs.Reading.{ReadsCommand}
 use Rattle.reader.proofs.Answering.{takes-fewer}
-use Rattle.console.specs.Printed.{Appends, readerRefused}
+use Rattle.console.specs.Printed.{Appends}
 use Rattle.console.specs.Performed.{afterCommand, Prints}
 use Rattle.console.specs.Sessions.{Reached, reached, Reading, Leads, DeclaresAll, start, Given, given, ReadsAll, afterAll, PrintsAll, Ends, Commands}
 
@@ -91,9 +91,6 @@ commands-whole e f classes cs ns ls m m′ begun out same none c is a =
 module _ (e f : ℕ) (same : e ≡ f) where
   pub read-more : (p q : Reached) (b : Bool) → b ≡ true → Reading e p (Ok b) q → Reading f p (Ok true) q
   read-more p q b t r = subst (λ x. Reading f p (Ok x) q) t (subst (λ x. Reading x p (Ok b) q) same r)
-
-  pub read-last : (p q : Reached) (answer : Result Bool Refusal) → Reading e p answer q → Reading f p answer q
-  read-last p q answer r = subst (λ x. Reading x p answer q) same r
 
   pub commanded : (classes : List Declared) (ns ms : List (List ℕ)) (ls after : List Lexeme) (o p : Option Command) → o ≡ p → ReadsCommand e classes ns ls (Ok o) ms after → ReadsCommand f classes ns ls (Ok p) ms after
   commanded classes ns ms ls after o p t r = subst (λ x. ReadsCommand f classes ns ls (Ok x) ms after) t (subst (λ x. ReadsCommand x classes ns ls (Ok o) ms after) same r)

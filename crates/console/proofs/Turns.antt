@@ -1,5 +1,5 @@
 -- One turn of each loop, and its end. Assumes nothing.
-use mathlib.Core.Path.{_≡_, refl, sym, ap, _∙_}
+use mathlib.Core.Path.{_≡_, sym, ap, _∙_}
 use mathlib.Core.List.{List, [], _∷_, _++_, append-assoc}
 use Prim.Native.Nat.{ℕ, zero, suc, _+_, _<_, _≤_}
 use native.Mathlib.Omega.{arith}
@@ -12,7 +12,7 @@ use Rattle.facts.specs.declared.fact.Fact.{Fact}
 use Rattle.facts.specs.Model.{tagAt, fieldsAt}
 use Rattle.orders.specs.declared.listing.Heading.{Heading}
 use Rattle.console.specs.Printed.{fieldText, fieldsText, classSymbol}
-use Rattle.console.specs.Listings.{headingOf, headingsOf}
+use Rattle.console.specs.Listings.{headingsOf}
 
 -- one field more is written
 pub field-more : (names : List (List ℕ)) (attributes : List ℕ) (values : List Value) (i a : ℕ) (v : Value) (before after whole : List ℕ) → i < length attributes → a ≡ getD attributes i 0 → v ≡ getD values (i + 1) nil → after ≡ before ++ fieldText names a v → before ++ fieldsText names (i + 1) (drop i attributes) values ≡ whole → after ++ fieldsText names (i + 1 + 1) (drop (i + 1) attributes) values ≡ whole

@@ -11,7 +11,7 @@ use Rattle.std.specs.declared.option.Option.{Option}
 use Rattle.std.specs.declared.option.Option.the-variants.{Some, None}
 use Rattle.values.specs.Naming.{answerIntern, afterIntern}
 use Rattle.rules.specs.Declarations.{findClass, afterDeclare}
-use Rattle.reader.specs.declared.form.Phase.the-variants.{Declaring, Commanding}
+use Rattle.reader.specs.declared.form.Phase.the-variants.{Declaring}
 use Rattle.reader.specs.Refusals.{wrongName, overLimit}
 use native.Mathlib.Omega.{arith}
 use lib.ListN.{length, take}
@@ -27,7 +27,7 @@ use Rattle.reader.specs.Senses.{sense}
 use Rattle.reader.specs.Forms.{Form, declaration, make, remove, removeAll, listMemory, Allowed, Entry, declares, commands, numbered, classAt, Judged, judged, Clear, withAttributes, meant}
 use Rattle.reader.specs.Machine.{State, opening, onward, whole, fails, turned, Outcome, taken, stopped, onStep, run}
 use Rattle.reader.specs.Meaning.{entryOf, Grows, placeOf, classIn}
-use Rattle.reader.specs.Reading.{Spells, Takes, Broken, Stands, Reads}
+use Rattle.reader.specs.Reading.{Spells, Takes, Broken, Reads}
 use Rattle.reader.proofs.Sofar.{Stopped, Tells, told, stopped-none}
 
 -- a word that leads on

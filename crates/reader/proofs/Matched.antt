@@ -2,14 +2,12 @@
 use mathlib.Core.Path.{_≡_, refl, sym, ap, _∙_}
 use mathlib.Core.Bool.{Bool, true, false, cond, not, _||_}
 use mathlib.Core.List.{List, [], _∷_, _++_}
-use mathlib.Core.Logic.{_⊎_, inl, inr, ⊎-elim}
 use Prim.Native.Nat.{ℕ, suc, _+_}
 use native.Mathlib.Omega.{arith}
 use borrow.Author.Tests.{eq-eqb, eqb-true}
 use lib.Dec.{eqb, leb}
 use lib.ListN.{length}
 use Rattle.std.proofs.shelf.Equals.{sameBytes-decides}
-use Rattle.std.proofs.shelf.Tests.{true≢false}
 use Rattle.std.specs.Options.{isSome, valueOr}
 use Rattle.std.specs.declared.option.Option.{Option}
 use Rattle.std.specs.declared.option.Option.the-variants.{Some, None}
@@ -17,7 +15,7 @@ use Rattle.std.specs.shelf.Text.{sameBytes}
 use Rattle.values.specs.Firsts.{firstFrom}
 use Rattle.values.specs.Naming.{numberOf, answerIntern, afterIntern}
 use Rattle.values.proofs.Numbering.{kept-number, own-number, answer-named, one-word}
-use Rattle.rules.specs.Attributes.{Declared, fieldOf}
+use Rattle.rules.specs.Attributes.{Declared}
 use Rattle.reader.specs.Refusals.{wrongName, overLimit}
 use Rattle.reader.specs.Forms.{numbered, roomless, fieldAt, among, attributeFault}
 use Rattle.reader.specs.Machine.{numberFault}

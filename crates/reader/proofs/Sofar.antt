@@ -1,7 +1,7 @@
 -- What the outcome of a reading says of the words. Assumes nothing.
 use mathlib.Core.Path.{_≡_, refl, sym, ap, subst, _∙_}
-use mathlib.Core.Bool.{Bool, true, false}
-use mathlib.Core.List.{List, [], _∷_, _++_, append-assoc, append-nil}
+use mathlib.Core.Bool.{true, false}
+use mathlib.Core.List.{List, [], _∷_, _++_, append-assoc}
 use Prim.Native.Nat.{ℕ}
 use native.Mathlib.Omega.{arith}
 use Rattle.std.specs.declared.option.Option.{Option}
@@ -13,11 +13,11 @@ use Rattle.reader.specs.declared.form.Phase.{Phase}
 use Rattle.reader.specs.declared.refusal.Cause.{Cause}
 use Rattle.reader.specs.declared.refusal.Cause.the-variants.{IllegalWord, UnexpectedWord, WrongName, OverLimit}
 use Rattle.reader.specs.Refusals.{Fault, wrongName, overLimit, causeOf}
-use Rattle.reader.specs.Senses.{sense, sort}
-use Rattle.reader.specs.Forms.{Form, Allowed, Entry, Judged, fine, judged, Clear, meant, namesAfter}
+use Rattle.reader.specs.Senses.{sense}
+use Rattle.reader.specs.Forms.{Entry, Judged, fine, judged, Clear, meant, namesAfter}
 use Rattle.reader.specs.Machine.{State, opening, Step, onward, whole, fails, turned, Outcome, taken, stopped, onStep, run}
-use Rattle.reader.specs.Reading.{Spells, Takes, TakesNone, Viable, Begun, Faulty, Reason}
-use Rattle.reader.proofs.Spelled.{halts, verdict, on-word, spelled-run}
+use Rattle.reader.specs.Reading.{Spells, Takes, TakesNone, Viable, Begun, Reason}
+use Rattle.reader.proofs.Spelled.{halts, verdict, spelled-run}
 use Rattle.reader.proofs.Progress.{Legal, At, Failing, Ended, Next, next, goes-on}
 
 -- ---- words one after another

@@ -1,9 +1,8 @@
 -- Words that spell a form are read as that form, or stop at its first broken word. Assumes nothing.
-use mathlib.Core.Path.{_≡_, refl, sym, ap, _∙_}
-use mathlib.Core.Bool.{Bool, true, false, cond, not}
+use mathlib.Core.Path.{_≡_, refl, ap, _∙_}
+use mathlib.Core.Bool.{cond, not}
 use mathlib.Core.List.{List, [], _∷_, _++_}
 use Prim.Native.Nat.{ℕ}
-use native.Mathlib.Omega.{arith}
 use lib.Chars.{codes}
 use lib.ListN.{set}
 use Rattle.std.specs.Options.{isSome, valueOr}
@@ -18,11 +17,10 @@ use Rattle.values.specs.Naming.{numberOf, answerIntern, afterIntern}
 use Rattle.rules.specs.Attributes.{Declared, newClass, withAttribute}
 use Rattle.reader.specs.declared.form.Phase.{Phase}
 use Rattle.reader.specs.declared.form.Phase.the-variants.{Declaring, Commanding}
-use Rattle.reader.specs.declared.refusal.Cause.{Cause}
 use Rattle.reader.specs.Refusals.{Fault, wrongName, overLimit, causeOf}
 use Rattle.reader.specs.Senses.{sense}
-use Rattle.reader.specs.Forms.{Constant, symbolic, numeric, Setting, Form, declaration, make, remove, removeAll, listMemory, Allowed, makes, removes, removesAll, lists, Entry, declares, commands, numbered, grown, classAt, fieldAt, classFault, attributeFault, valueFault, Judged, fine, judge, constantWord, afterValue, judgedAttributes, judgedSettings, judged, Clear, withAttributes, valueOf, filled, afterValues, meant, namesAfter}
-use Rattle.reader.specs.Machine.{State, opening, head, className, attributes, elementClass, pairs, attribute, fieldValue, tag, closing, Step, onward, whole, fails, unless, elementOf, fieldFound, symbolSet, turned, Outcome, taken, stopped, onStep, run}
+use Rattle.reader.specs.Forms.{Constant, symbolic, numeric, Setting, Form, declaration, make, remove, removeAll, listMemory, Allowed, makes, removes, removesAll, lists, declares, commands, numbered, grown, classAt, fieldAt, classFault, attributeFault, valueFault, Judged, fine, constantWord, afterValue, judgedAttributes, judgedSettings, judged, withAttributes, valueOf, filled, afterValues, meant, namesAfter}
+use Rattle.reader.specs.Machine.{State, opening, head, className, attributes, elementClass, pairs, attribute, fieldValue, tag, closing, onward, unless, elementOf, fieldFound, symbolSet, turned, Outcome, taken, stopped, onStep, run}
 use Rattle.reader.specs.Reading.{Spells}
 use Rattle.reader.proofs.Matched.{Matched, same-fault, matched-more}
 

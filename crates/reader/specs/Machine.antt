@@ -1,6 +1,6 @@
 -- Reading word by word. Assumes nothing.
-use mathlib.Core.Bool.{Bool, cond, _||_}
-use mathlib.Core.List.{List, [], _∷_, _++_}
+use mathlib.Core.Bool.{cond, _||_}
+use mathlib.Core.List.{List, [], _∷_}
 use Prim.Native.Nat.{ℕ}
 use lib.Chars.{codes}
 use lib.Dec.{leb}
@@ -15,7 +15,7 @@ use Rattle.values.specs.declared.value.Value.{Value}
 use Rattle.values.specs.declared.value.Value.the-variants.{Symbol, Number}
 use Rattle.values.specs.Elements.{blank}
 use Rattle.values.specs.Naming.{numberOf, answerIntern, afterIntern}
-use Rattle.rules.specs.Attributes.{Declared, newClass, fieldOf, withAttribute}
+use Rattle.rules.specs.Attributes.{Declared, newClass, withAttribute}
 use Rattle.reader.specs.declared.form.Phase.{Phase}
 use Rattle.reader.specs.declared.form.Phase.the-variants.{Declaring, Commanding}
 use Rattle.reader.specs.declared.refusal.Cause.{Cause}

@@ -14,7 +14,6 @@ use Rattle.reader.specs.declared.form.Command.the-variants.{Make, Remove, Remo
 use Rattle.reader.specs.declared.form.Taken.{Taken}
 use Rattle.reader.specs.declared.form.Taken.the-variants.{Declaration, Order}
 use Rattle.reader.specs.declared.refusal.Refusal.{Refusal}
-use Rattle.reader.specs.declared.state.Filling.{Filling}
 use Rattle.reader.specs.declared.state.State.{State as Reading}
 use Rattle.reader.specs.declared.state.State.the-variants.{Opening, Head, ClassName, Attributes, ElementClass, Pairs, Attribute, FieldValue, Tag, Closing}
 use Rattle.reader.specs.declared.state.Step.{Step as Turn}

@@ -10,7 +10,7 @@ use Rattle.std.specs.shelf.Text.{sameBytes}
 use Rattle.std.specs.declared.option.Option.the-variants.{Some, None}
 use Rattle.std.specs.declared.result.Result.{Result}
 use Rattle.std.specs.declared.result.Result.the-variants.{Ok, Err}
-use Rattle.words.specs.Kinds.{Kind, illegal}
+use Rattle.words.specs.Kinds.{illegal}
 use Rattle.words.specs.Words.{Lexeme}
 use Rattle.rules.specs.Attributes.{Declared}
 use Rattle.reader.specs.declared.form.Command.{Command}

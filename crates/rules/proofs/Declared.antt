@@ -1,10 +1,9 @@
 -- Looking up attributes and classes, and one more of each. Assumes nothing.
 use mathlib.Core.Path.{_≡_, refl, sym, ap, _∙_}
-use mathlib.Core.Bool.{Bool, true, false, cond}
+use mathlib.Core.Bool.{false, cond}
 use mathlib.Core.List.{List, [], _∷_, _++_}
-use Prim.Native.Nat.{ℕ, suc, _+_, _≤_, _<_}
+use Prim.Native.Nat.{ℕ, _+_, _≤_, _<_}
 use native.Mathlib.Omega.{arith}
-use native.Mathlib.Numerals.{add-one}
 use borrow.Author.Tests.{eq-eqb, ne-eqb, lt-leb, le-leb}
 use lib.Dec.{eqb, leb}
 use lib.ListN.{length, getD, take, drop, set}
@@ -17,10 +16,10 @@ use Rattle.std.specs.declared.option.Option.{Option}
 use Rattle.std.specs.declared.option.Option.the-variants.{Some, None}
 use Rattle.std.specs.declared.result.Result.the-variants.{Ok, Err}
 use Rattle.values.proofs.Mapped.{mapped-length}
-use Rattle.rules.specs.Attributes.{Declared, declared, newClass, fieldOf, withAttribute, answerAdd, afterAdd}
+use Rattle.rules.specs.Attributes.{Declared, declared, fieldOf, withAttribute, answerAdd, afterAdd}
 use Rattle.rules.specs.Declarations.{classesOf, findClass, answerDeclare, afterDeclare}
 use Rattle.rules.specs.declared.class.Class.{Class}
-use Rattle.rules.specs.declared.class.ClassRefusal.the-variants.{Twice, TooMany}
+use Rattle.rules.specs.declared.class.ClassRefusal.the-variants.{TooMany}
 use Rattle.rules.specs.declared.classes.Classes.{Classes}
 
 pub counted : (c : Class) → length (declared c .attributes) ≡ c .count

@@ -3,7 +3,7 @@ use mathlib.Core.List.{List, _∷_}
 use Prim.Native.Nat.{ℕ}
 use lib.ListN.{replicate}
 use Rattle.values.specs.declared.value.Value.{Value}
-use Rattle.values.specs.declared.value.Value.the-variants.{Symbol, Number}
+use Rattle.values.specs.declared.value.Value.the-variants.{Symbol}
 use Rattle.values.specs.declared.element.Element.{Element}
 
 -- the symbol that stands for nothing

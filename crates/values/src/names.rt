@@ -1,7 +1,7 @@
 // The names of all symbols, numbered by first use.
 ghost use mathlib.Core.Path.{_≡_};
 ghost use mathlib.Core.List.{[], map};
-ghost use Prim.Native.Nat.{ℕ, _≤_, _<_};
+ghost use Prim.Native.Nat.{_≤_, _<_};
 ghost use lib.Chars.{codes};
 ghost use lib.ListN.{getD};
 ghost use Rattle.std.specs.Of.Vec.{vec-items, vec-len, vec-cap};

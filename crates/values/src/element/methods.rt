@@ -17,13 +17,6 @@ impl Element {
         Element { fields }
     }
 
-    // An element with these values.
-    pub fn of_values(fields: [Value; 16]) -> Element
-        ensures { λ r. ⌜ fieldsOf r ≡ fields ⌝ }
-    {
-        Element { fields }
-    }
-
     // Sets a field; a number past the last field sets none.
     pub fn set(&mut self, field: usize, value: Value)
         ensures { λ _. ⌜ fieldsOf (now (self .exit)) ≡ set (fieldsOf (now (self .entry))) field value ⌝ }

@@ -1,8 +1,6 @@
 // Making a name of bytes, and reading its bytes.
 ghost use mathlib.Core.Path.{_≡_};
 ghost use mathlib.Core.Bool.{false};
-ghost use Prim.Native.Nat.{_≤_};
-ghost use lib.ListN.{length};
 ghost use Rattle.std.specs.Options.{Cases as BySome};
 ghost use Rattle.values.specs.Spelling.{spelling, nameable};
 use super::LONGEST_NAME;

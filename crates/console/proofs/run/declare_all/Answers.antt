@@ -5,7 +5,7 @@ use Rattle.words.specs.Words.{rest, textOf}
 use Rattle.values.specs.Naming.{held}
 use Rattle.rules.specs.Bases.{declaringClasses}
 use Rattle.console.specs.Sessions.{reached}
-use Rattle.console.proofs.Going.{leads-more, read-more, read-last, fewer-left}
+use Rattle.console.proofs.Going.{leads-more, read-more, fewer-left}
 use Rattle.console.proofs.run.declare_all.Needs as need
 
 pub loop-less : need.loop-less

@@ -1,4 +1,3 @@
-use mathlib.Core.Path.{_∙_}
 use Rattle.words.specs.Words.{rest}
 use Rattle.values.specs.Naming.{held}
 use Rattle.rules.specs.Attributes.{declared}

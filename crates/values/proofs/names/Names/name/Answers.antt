@@ -1,7 +1,6 @@
 use mathlib.Core.Path.{_∙_}
 use mathlib.Core.List.{[]}
 use native.Mathlib.Omega.{arith}
-use borrow.Author.Needs.{needs}
 use Rattle.std.specs.Of.Vec.{vec-items}
 use Rattle.values.specs.Spelling.{spelling}
 use Rattle.values.proofs.Mapped.{mapped-read, mapped-length}
