@@ -22,7 +22,7 @@ use Rattle.reader.specs.Reading.{ReadsCommand}
 use Rattle.reader.proofs.Answering.{takes-fewer}
 use Rattle.console.specs.Printed.{Appends}
 use Rattle.console.specs.Performed.{afterCommand, Prints}
-use Rattle.console.specs.Sessions.{Reached, reached, Reading, Leads, DeclaresAll, start, Given, given, ReadsAll, afterAll, PrintsAll, Ends, Commands}
+use Rattle.console.specs.Sessions.{Reached, reached, Reading, Leads, DeclaresAll, start, Given, given, ReadsAll, afterAll, PrintsAll, Ends, Left, left, Commands}
 
 -- one declaration more
 pub leads-more : (end : ℕ) (p : Reached) (steps : List Reached) (q r : Reached) → Leads end p steps q → Reading end q (Ok true) r → Leads end p (steps ++ r ∷ []) r
@@ -37,9 +37,6 @@ pub record Went (end : ℕ) (classes : List Declared) (ns : List (List ℕ)) (ls
   pub read : ReadsAll end classes ns ls commands ms after
   pub prints : PrintsAll classes before commands printed
   pub memory : m ≡ afterAll before commands
-
-pub went-none : (end : ℕ) (classes : List Declared) (ns : List (List ℕ)) (ls : List Lexeme) (before : Model) (start : List ℕ) → Went end classes ns ls before start ns ls before start
-went-none end classes ns ls before start = record { commands = []; printed = []; written = sym (append-nil start); read = (refl, refl); prints = refl; memory = refl }
 
 after-push : (m : Model) (gs : List Given) (g : Given) → afterAll m (gs ++ g ∷ []) ≡ afterCommand (afterAll m gs) (g .command)
 after-push m [] g = refl
@@ -74,17 +71,17 @@ module _ (end : ℕ) (classes : List Declared) (ns : List (List ℕ)) (ls : List
       }
 
   -- the end
-  pub went-all : (out′ tail : List ℕ) → out′ ≡ out ++ tail → Ends end classes ms after tail → Appends start out′ (Commands end classes ns ls before)
-  went-all out′ tail e ends =
-      (w .printed ++ tail, e ∙ ap (λ x. x ++ tail) (w .written) ∙ append-assoc start (w .printed) tail, (w .commands, w .printed, tail, ms, after, refl, w .read, w .prints, ends))
+  pub went-all : (ks : List (List ℕ)) (rest : List Lexeme) (out′ tail : List ℕ) → out′ ≡ out ++ tail → Ends end classes ms after tail ks rest → Appends start out′ (Commands end classes (left ns ls before) (left ks rest m))
+  went-all ks rest out′ tail e ends =
+      (w .printed ++ tail, e ∙ ap (λ x. x ++ tail) (w .written) ∙ append-assoc start (w .printed) tail, (w .commands, w .printed, tail, ms, after, refl, w .read, w .prints, ends, w .memory))
 
 -- commands that begin with nothing printed
-pub commands-whole : (e f : ℕ) (classes cs : List Declared) (ns : List (List ℕ)) (ls : List Lexeme) (m m′ : Model) (begun out : List ℕ) → e ≡ f → begun ≡ [] → classes ≡ cs → m ≡ m′ → Appends begun out (Commands e classes ns ls m) → Commands f cs ns ls m′ out
-commands-whole e f classes cs ns ls m m′ begun out same none c is a =
-    subst (λ x. Commands x cs ns ls m′ out) same
-    (subst (λ x. Commands e x ns ls m′ out) c
-    (subst (λ x. Commands e classes ns ls x out) is
-    (subst (Commands e classes ns ls m) (sym (a .1 ∙ ap (λ x. x ++ a .0) none)) (a .2))))
+pub commands-whole : (e f : ℕ) (classes cs : List Declared) (ns : List (List ℕ)) (ls : List Lexeme) (m m′ : Model) (q : Left) (begun out : List ℕ) → e ≡ f → begun ≡ [] → classes ≡ cs → m ≡ m′ → Appends begun out (Commands e classes (left ns ls m) q) → Commands f cs (left ns ls m′) q out
+commands-whole e f classes cs ns ls m m′ q begun out same none c is a =
+    subst (λ x. Commands x cs (left ns ls m′) q out) same
+    (subst (λ x. Commands e x (left ns ls m′) q out) c
+    (subst (λ x. Commands e classes (left ns ls x) q out) is
+    (subst (Commands e classes (left ns ls m) q) (sym (a .1 ∙ ap (λ x. x ++ a .0) none)) (a .2))))
 
 -- ---- what a call answered, of the whole text
 
@@ -100,7 +97,7 @@ module _ (e f : ℕ) (same : e ≡ f) where
 
 -- each form leaves fewer words
 pub fewer-left : (end : ℕ) (p q : Reached) → Reading end p (Ok true) q → length (q .left) < length (p .left)
-fewer-left end p q r = takes-fewer Declaring (p .classes) (p .names) (q .names) (p .left) (q .left) (declares (r .1 .0)) (r .1 .1)
+fewer-left end p q r = takes-fewer Declaring (p .classes) (p .names) (q .names) (p .left) (q .left) (declares (r .2 .0)) (r .2 .1)
 
 pub fewer-commands : (end : ℕ) (classes : List Declared) (ns ms : List (List ℕ)) (ls after : List Lexeme) (c : Command) → ReadsCommand end classes ns ls (Ok (Some c)) ms after → length after < length ls
 fewer-commands end classes ns ms ls after c r = takes-fewer Commanding classes ns ms ls after (commands (actOf c)) (r .1)

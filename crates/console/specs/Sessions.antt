@@ -26,6 +26,7 @@ pub record Reached : Type 0 where
   pub names : List (List ℕ)
   pub left : List Lexeme
 
+-- the same from its parts
 abbrev pub reached : List Declared → List (List ℕ) → List Lexeme → Reached
 reached classes names left = record { classes = classes; names = names; left = left }
 
@@ -56,6 +57,7 @@ pub record Given : Type 0 where
   pub names : List (List ℕ)
   pub left : List Lexeme
 
+-- the same from its parts
 abbrev pub given : Command → List (List ℕ) → List Lexeme → Given
 given command names left = record { command = command; names = names; left = left }
 
@@ -77,17 +79,29 @@ PrintsAll classes m (g ∷ others) bytes =
     (first : List ℕ) × (further : List ℕ) × (bytes ≡ first ++ further) × Prints (g .names) classes m (g .command) first
     × PrintsAll classes (afterCommand m (g .command)) others further
 
--- how a session ends: no command is left and nothing more is printed, or the next one is refused and the refusal is printed
-abbrev pub Ends : ℕ → List Declared → List (List ℕ) → List Lexeme → List ℕ → Type 0
-Ends end classes ns ls bytes =
-    ((ms : List (List ℕ)) × (after : List Lexeme) × ReadsCommand end classes ns ls (Ok None) ms after × (bytes ≡ []))
-    ⊎ ((refusal : Refusal) × (ms : List (List ℕ)) × (after : List Lexeme) × ReadsCommand end classes ns ls (Err refusal) ms after × (bytes ≡ readerRefused refusal))
+-- how commands end, with the names and the words left then: no command is left and nothing more is printed, or the next
+-- one is refused and the refusal is printed
+abbrev pub Ends : ℕ → List Declared → List (List ℕ) → List Lexeme → List ℕ → List (List ℕ) → List Lexeme → Type 0
+Ends end classes ns ls bytes ms after =
+    (ReadsCommand end classes ns ls (Ok None) ms after × (bytes ≡ []))
+    ⊎ ((refusal : Refusal) × ReadsCommand end classes ns ls (Err refusal) ms after × (bytes ≡ readerRefused refusal))
 
--- the bytes are what the commands of a text print, from a point on and from a memory on
-abbrev pub Commands : ℕ → List Declared → List (List ℕ) → List Lexeme → Model → List ℕ → Type 0
-Commands end classes ns ls m bytes =
+-- where commands have come to: the names, the words left, and the memory
+pub record Left : Type 0 where
+  pub names : List (List ℕ)
+  pub words : List Lexeme
+  pub memory : Model
+
+-- the same from its parts
+abbrev pub left : List (List ℕ) → List Lexeme → Model → Left
+left names words memory = record { names = names; words = words; memory = memory }
+
+-- the bytes are what the commands of a text of `end` bytes print from one point to the last
+abbrev pub Commands : ℕ → List Declared → Left → Left → List ℕ → Type 0
+Commands end classes p q bytes =
     (commands : List Given) × (printed : List ℕ) × (tail : List ℕ) × (ms : List (List ℕ)) × (after : List Lexeme)
-    × (bytes ≡ printed ++ tail) × ReadsAll end classes ns ls commands ms after × PrintsAll classes m commands printed × Ends end classes ms after tail
+    × (bytes ≡ printed ++ tail) × ReadsAll end classes (p .names) (p .words) commands ms after × PrintsAll classes (p .memory) commands printed
+    × Ends end classes ms after tail (q .names) (q .words) × (q .memory ≡ afterAll (p .memory) commands)
 
 -- ---- the whole
 
@@ -97,7 +111,7 @@ start text = reached [] (codes "nil" ∷ []) (wordsOf text)
 
 -- what follows the declarations: the commands, on an empty memory of 256 places that has given no tag; or the refusal
 abbrev pub Follows : ℕ → Result (Unit {0}) Refusal → Reached → List ℕ → Type 0
-Follows end (Ok _) p bytes = Commands end (p .classes) (p .names) (p .left) (model [] 0 256) bytes
+Follows end (Ok _) p bytes = (q : Left) × Commands end (p .classes) (left (p .names) (p .left) (model [] 0 256)) q bytes
 Follows end (Err refusal) p bytes = bytes ≡ readerRefused refusal
 
 -- the bytes are what the session of a text prints

@@ -4,18 +4,19 @@ ghost use lib.ListN.{length};
 ghost use Rattle.std.specs.Of.Vec.{vec-items};
 ghost use Rattle.std.specs.Vec.{made};
 ghost use Rattle.words.specs.Words.{rest, textOf};
+ghost use Rattle.values.specs.Elements.{fieldsOf, blank};
 ghost use Rattle.values.specs.Naming.{held};
 ghost use Rattle.facts.specs.Model.{meant};
 ghost use Rattle.rules.specs.Bases.{declaringClasses, sealedClasses};
 ghost use Rattle.console.specs.Printed.{Appends};
-ghost use Rattle.console.specs.Sessions.{reached, DeclaresAll, Commands, Session};
+ghost use Rattle.console.specs.Sessions.{reached, DeclaresAll, left, Commands, Session};
 use crate::commands::perform;
 use crate::lines::write_reader_refusal;
 use facts::fact::Fact;
-use facts::plain::MOST_ELEMENTS;
 use facts::plain::PlainMemory;
 use facts::plain::PlainMemoryFacts;
 use facts::plain::PlainMemoryMemory;
+use facts::traits::MOST_ELEMENTS;
 use facts::traits::Memory;
 use reader::read::read_command;
 use reader::read::read_declaration;
@@ -46,7 +47,7 @@ fn command_all<M: Memory>(
     base: &Sealed,
     memory: &mut M,
 ) -> Result<(), AllocError>
-    ensures { λ r. ⌜ made r (λ _. Appends (vec-items (now (out .entry))) (vec-items (now (out .exit))) (Commands (length (textOf (now (words .entry)))) (sealedClasses (now (base .entry))) (held (now (names .entry))) (rest (now (words .entry))) (meant (M·Facts .facts) (M·Memory .last) (M·Memory .room) (now (memory .entry))))) ⌝ }
+    ensures { λ r. ⌜ made r (λ _. Appends (vec-items (now (out .entry))) (vec-items (now (out .exit))) (Commands (length (textOf (now (words .entry)))) (sealedClasses (now (base .entry))) (left (held (now (names .entry))) (rest (now (words .entry))) (meant (M·Facts .facts) (M·Memory .last) (M·Memory .room) (now (memory .entry)))) (left (held (now (names .exit))) (rest (now (words .exit))) (meant (M·Facts .facts) (M·Memory .last) (M·Memory .room) (now (memory .exit)))))) ⌝ }
 {
     loop {
         let next = match read_command(words, names, base) {
@@ -61,7 +62,10 @@ fn command_all<M: Memory>(
 }
 
 // A memory's place before anything is put there.
-fn empty_place() -> Fact {
+fn empty_place() -> Fact
+    ensures tag { λ r. ⌜ r .tag ≡ 0 ⌝ }
+    ensures element { λ r. ⌜ fieldsOf (r .element) ≡ blank 0 ⌝ }
+{
     Fact {
         tag: 0,
         element: Element::of_class(0),

@@ -9,8 +9,8 @@ ghost use Rattle.facts.specs.Plain.{placesOf, plainFacts, plainLast, plainRoom
 use crate::fact::Fact;
 use crate::refusal::MemoryRefusal;
 use crate::traits::Facts;
-pub use crate::traits::LAST_TAG;
-pub use crate::traits::MOST_ELEMENTS;
+use crate::traits::LAST_TAG;
+use crate::traits::MOST_ELEMENTS;
 use crate::traits::Memory;
 use crate::traits::place_of;
 use values::element::Element;

@@ -24,7 +24,7 @@ use Rattle.reader.specs.declared.form.Taken.{Taken}
 use Rattle.reader.specs.declared.refusal.Cause.{Cause}
 use Rattle.reader.specs.declared.refusal.Refusal.{Refusal}
 use Rattle.reader.specs.Senses.{sense}
-use Rattle.reader.specs.Forms.{Form, declaration, make, remove, removeAll, listMemory, Allowed, Entry, declares, commands, numbered, classAt, Judged, judged, Clear, withAttributes, meant}
+use Rattle.reader.specs.Forms.{Form, declaration, make, remove, removeAll, listMemory, Allowed, Entry, declares, commands, numbered, classAt, Judged, judged, Faultless, withAttributes, meant}
 use Rattle.reader.specs.Machine.{State, opening, onward, whole, fails, turned, Outcome, taken, stopped, onStep, run}
 use Rattle.reader.specs.Meaning.{entryOf, Grows, placeOf, classIn}
 use Rattle.reader.specs.Reading.{Spells, Takes, Broken, Reads}
@@ -87,7 +87,7 @@ class-new cs (Some i) = by (isSome (findClass cs i)) (leb 16 (length cs))
     by false true e = let z : _≡_ {A = ℕ} 0 1 = cc in absurd (omega arith)
     by false false e = (refl, refl)
 
-new-class : (cs : List Declared) (ns : List (List ℕ)) (d : Declared) (form : Form) → Allowed Declaring form → Clear (judged cs ns form) → declares d ≡ meant cs ns form → afterDeclare cs d ≡ cs ++ d ∷ []
+new-class : (cs : List Declared) (ns : List (List ℕ)) (d : Declared) (form : Form) → Allowed Declaring form → Faultless (judged cs ns form) → declares d ≡ meant cs ns form → afterDeclare cs d ≡ cs ++ d ∷ []
 new-class cs ns d (declaration w xs) a c e =
     let is : d ≡ withAttributes (newClass (numbered ns w)) (afterIntern ns w) xs = cc in
     let name : d .name ≡ numbered ns w = ap (λ x. x .name) is ∙ name-kept xs (afterIntern ns w) (newClass (numbered ns w)) in

@@ -17,8 +17,8 @@ use Rattle.values.specs.Naming.{numberOf, answerIntern, afterIntern}
 use Rattle.values.proofs.Numbering.{kept-number, own-number, answer-named, one-word}
 use Rattle.rules.specs.Attributes.{Declared}
 use Rattle.reader.specs.Refusals.{wrongName, overLimit}
-use Rattle.reader.specs.Forms.{numbered, roomless, fieldAt, among, attributeFault}
-use Rattle.reader.specs.Machine.{numberFault}
+use Rattle.reader.specs.Forms.{numbered, unnameable, fieldAt, among, attributeFault}
+use Rattle.reader.specs.Machine.{attributeFaultByNumber}
 
 -- each word has the number beside it
 abbrev pub Matched : List (List ℕ) → List (List ℕ) → List ℕ → Type 0
@@ -88,10 +88,10 @@ not-among ns (v ∷ ws) (j ∷ is) w m e = go (sameBytes v w) refl (not-among ns
     go false s f = f
 
 -- an attribute breaks the same rule by its word and by its number
-pub same-fault : (c : Declared) (ns seen : List (List ℕ)) (w : List ℕ) → Matched ns seen (c .attributes) → numberFault c ns w ≡ attributeFault ns seen w
+pub same-fault : (c : Declared) (ns seen : List (List ℕ)) (w : List ℕ) → Matched ns seen (c .attributes) → attributeFaultByNumber c ns w ≡ attributeFault ns seen w
 same-fault c ns seen w m =
-    sym (ap (λ b. cond b (Some wrongName) (cond (leb 15 (length seen) || roomless ns w) (Some overLimit) None)) (by (answerIntern ns w) refl)
-    ∙ ap (λ n. cond (isSome (fieldAt c (answerIntern ns w))) (Some wrongName) (cond (leb 15 n || roomless ns w) (Some overLimit) None)) (matched-length ns seen (c .attributes) m))
+    sym (ap (λ b. cond b (Some wrongName) (cond (leb 15 (length seen) || unnameable ns w) (Some overLimit) None)) (by (answerIntern ns w) refl)
+    ∙ ap (λ n. cond (isSome (fieldAt c (answerIntern ns w))) (Some wrongName) (cond (leb 15 n || unnameable ns w) (Some overLimit) None)) (matched-length ns seen (c .attributes) m))
   where
     by : (o : Option ℕ) → answerIntern ns w ≡ o → among w seen ≡ isSome (fieldAt c o)
     by None e = not-among ns seen (c .attributes) w m e

@@ -23,17 +23,17 @@ use Rattle.reader.specs.declared.form.Phase.the-variants.{Declaring, Commandin
 use Rattle.reader.specs.declared.refusal.Cause.{Cause}
 use Rattle.reader.specs.declared.refusal.Cause.the-variants.{IllegalWord, UnexpectedWord, WrongName, OverLimit}
 use Rattle.reader.specs.Refusals.{Fault, wrongName, overLimit, causeOf}
-use Rattle.reader.specs.Senses.{sense, sort}
+use Rattle.reader.specs.Senses.{sense, byKind}
 use Rattle.reader.specs.Forms.{Constant, symbolic, numeric, Setting, Form, declaration, make, remove, removeAll, listMemory, Allowed, Act, makes, removes, removesAll, lists, Entry, declares, commands, numbered, grown, classAt, fieldAt, classFault, attributeFault, elementClassFault, fieldFault, valueFault, Judged, fine, judge, constantWord, afterValue, judgedAttributes, judgedSettings, classNamed, judged, withAttributes, valueOf, filled, afterValues, meant, namesAfter}
-use Rattle.reader.specs.Machine.{State, opening, head, className, attributes, elementClass, pairs, attribute, fieldValue, tag, closing, Step, onward, whole, fails, unless, bad, wrong, headWord, classWord, attributeWord, elementOf, fieldFound, symbolSet, turned}
+use Rattle.reader.specs.Machine.{State, opening, head, className, attributes, elementClass, pairs, attribute, fieldValue, tag, closing, Step, onward, whole, fails, unless, unexpected, illegalHere, headWord, classWord, attributeWord, elementOf, fieldFound, symbolSet, turned}
 use Rattle.reader.proofs.Matched.{Matched, same-fault, matched-more}
 
 -- ---- by the kind of a word
 
 abbrev pub Legal : Kind → Type 0
-Legal k = sort k true true true (λ _. true) (λ _. true) false true ≡ true
+Legal k = byKind k true true true (λ _. true) (λ _. true) false true ≡ true
 
-by-sense : (P : Kind → Step → Type 0) (o c h : Step) (s : List ℕ → Step) (n : ℤ → Step) → P open′ o → P close′ c → P hat h → ((w : List ℕ) → P (symbol w) (s w)) → ((m : ℤ) → P (number m []) (n m)) → ((w : List ℕ) → P (illegal w) wrong) → ((k : Kind) → Legal k → P k bad) → (k : Kind) → P (sense k) (sort (sense k) o c h s n wrong bad)
+by-sense : (P : Kind → Step → Type 0) (o c h : Step) (s : List ℕ → Step) (n : ℤ → Step) → P open′ o → P close′ c → P hat h → ((w : List ℕ) → P (symbol w) (s w)) → ((m : ℤ) → P (number m []) (n m)) → ((w : List ℕ) → P (illegal w) illegalHere) → ((k : Kind) → Legal k → P k unexpected) → (k : Kind) → P (sense k) (byKind (sense k) o c h s n illegalHere unexpected)
 by-sense P o c h s n po pc ph ps pn pi pb open′ = po
 by-sense P o c h s n po pc ph ps pn pi pb close′ = pc
 by-sense P o c h s n po pc ph ps pn pi pb hat = ph
@@ -158,13 +158,13 @@ module _ (ph : Phase) (cs : List Declared) (ns : List (List ℕ)) where
 
   at-opening : (js : List Judged) (k : Kind) → js ≡ [] → Next js (sense k) (turned ph cs ns opening (sense k))
   at-opening js k e =
-      by-sense (Next js) (onward head ns) bad bad (λ _. bad) (λ _. bad)
+      by-sense (Next js) (onward head ns) unexpected unexpected (λ _. unexpected) (λ _. unexpected)
       (fine open′, refl, refl, (ap (λ l. l ++ fine open′ ∷ []) e, refl))
       refl refl (λ w. refl) (λ m. refl) (λ w. (w, refl)) (λ k h. h) k
 
   head-word : (p : Phase) → ph ≡ p → (js : List Judged) (w : List ℕ) → js ≡ fine open′ ∷ [] → Next js (symbol w) (headWord p ns w)
   head-word Declaring q js w e =
-      cond-both (sameBytes w (codes "literalize")) (onward className ns) bad (Next js (symbol w))
+      cond-both (sameBytes w (codes "literalize")) (onward className ns) unexpected (Next js (symbol w))
       (λ t. (fine (symbol (codes "literalize")), ap symbol (sameBytes-decides w (codes "literalize") .0 t), refl, (q, ap (λ l. l ++ fine (symbol (codes "literalize")) ∷ []) e, refl)))
       (λ _. refl)
   head-word Commanding q js w e =
@@ -174,7 +174,7 @@ module _ (ph : Phase) (cs : List Declared) (ns : List (List ℕ)) where
       cond-both (sameBytes w (codes "remove")) _ _ (Next js (symbol w))
       (λ t. (fine (symbol (codes "remove")), ap symbol (sameBytes-decides w (codes "remove") .0 t), refl, (q, ap (λ l. l ++ fine (symbol (codes "remove")) ∷ []) e, refl)))
       (λ _.
-      cond-both (sameBytes w (codes "wm")) (onward (closing lists) ns) bad (Next js (symbol w))
+      cond-both (sameBytes w (codes "wm")) (onward (closing lists) ns) unexpected (Next js (symbol w))
       (λ t. (
         fine (symbol (codes "wm")),
         ap symbol (sameBytes-decides w (codes "wm") .0 t),
@@ -185,12 +185,12 @@ module _ (ph : Phase) (cs : List Declared) (ns : List (List ℕ)) where
 
   at-head : (js : List Judged) (k : Kind) → js ≡ fine open′ ∷ [] → Next js (sense k) (turned ph cs ns head (sense k))
   at-head js k e =
-      by-sense (Next js) bad bad bad (λ w. headWord ph ns w) (λ _. bad)
+      by-sense (Next js) unexpected unexpected unexpected (λ w. headWord ph ns w) (λ _. unexpected)
       refl refl refl (λ w. head-word ph refl js w e) (λ m. refl) (λ w. (w, refl)) (λ k h. h) k
 
   at-class : (js : List Judged) (k : Kind) → ph ≡ Declaring → js ≡ fine open′ ∷ fine (symbol (codes "literalize")) ∷ [] → Next js (sense k) (turned ph cs ns className (sense k))
   at-class js k q e =
-      by-sense (Next js) bad bad bad (λ w. classWord cs ns w) (λ _. bad)
+      by-sense (Next js) unexpected unexpected unexpected (λ w. classWord cs ns w) (λ _. unexpected)
       refl refl refl (λ w. go w (classFault cs ns w) refl) (λ m. refl) (λ w. (w, refl)) (λ k h. h) k
     where
       go : (w : List ℕ) (o : Option Fault) → classFault cs ns w ≡ o → Next js (symbol w) (unless o (onward (attributes (newClass (numbered ns w))) (afterIntern ns w)))
@@ -214,7 +214,7 @@ module _ (ph : Phase) (cs : List Declared) (ns : List (List ℕ)) where
 
   at-attributes : (c : Declared) (ms : List (List ℕ)) (js : List Judged) (k : Kind) → InAttributes c ms js → Next js (sense k) (turned ph cs ms (attributes c) (sense k))
   at-attributes c ms js k h =
-      by-sense (Next js) bad (whole (declares c) ms) bad (λ w. attributeWord c ms w) (λ _. bad)
+      by-sense (Next js) unexpected (whole (declares c) ms) unexpected (λ w. attributeWord c ms w) (λ _. unexpected)
       refl
       (record {
         form = declaration (h .name) (h .names);
@@ -263,7 +263,7 @@ module _ (ph : Phase) (cs : List Declared) (ns : List (List ℕ)) where
 
   at-element-class : (js : List Judged) (k : Kind) → ph ≡ Commanding → js ≡ fine open′ ∷ fine (symbol (codes "make")) ∷ [] → Next js (sense k) (turned ph cs ns elementClass (sense k))
   at-element-class js k q e =
-      by-sense (Next js) bad bad bad (λ w. elementOf ns (classAt cs (numberOf ns w))) (λ _. bad)
+      by-sense (Next js) unexpected unexpected unexpected (λ w. elementOf ns (classAt cs (numberOf ns w))) (λ _. unexpected)
       refl refl refl (λ w. go w (classAt cs (numberOf ns w)) refl) (λ m. refl) (λ w. (w, refl)) (λ k h. h) k
     where
       go : (w : List ℕ) (o : Option Declared) → classAt cs (numberOf ns w) ≡ o → Next js (symbol w) (elementOf ns o)
@@ -320,7 +320,7 @@ module _ (ph : Phase) (cs : List Declared) (ns : List (List ℕ)) where
 
     at-pairs : (k : Kind) → Next js (sense k) (turned ph cs ms (pairs c e) (sense k))
     at-pairs k =
-        by-sense (Next js) bad (whole (commands (makes e)) ms) (onward (attribute c e) ms) (λ _. bad) (λ _. bad)
+        by-sense (Next js) unexpected (whole (commands (makes e)) ms) (onward (attribute c e) ms) (λ _. unexpected) (λ _. unexpected)
         refl
         (record {
           form = make (h .name) (h .settings);
@@ -334,7 +334,7 @@ module _ (ph : Phase) (cs : List Declared) (ns : List (List ℕ)) where
 
     at-attribute : (is : List Judged) (k : Kind) → is ≡ js ++ fine hat ∷ [] → Next is (sense k) (turned ph cs ms (attribute c e) (sense k))
     at-attribute is k q =
-        by-sense (Next is) bad bad bad (λ w. fieldFound c e ms (fieldAt c (numberOf ms w))) (λ _. bad)
+        by-sense (Next is) unexpected unexpected unexpected (λ w. fieldFound c e ms (fieldAt c (numberOf ms w))) (λ _. unexpected)
         refl refl refl (λ w. go w (fieldAt c (numberOf ms w)) refl) (λ m. refl) (λ w. (w, refl)) (λ k h. h) k
       where
         go : (w : List ℕ) (o : Option ℕ) → fieldAt c (numberOf ms w) ≡ o → Next is (symbol w) (fieldFound c e ms o)
@@ -379,7 +379,7 @@ module _ (ph : Phase) (cs : List Declared) (ns : List (List ℕ)) where
 
       at-value : (k : Kind) → Next is (sense k) (turned ph cs ms (fieldValue c e f) (sense k))
       at-value k =
-          by-sense (Next is) bad bad bad (λ w. symbolSet c e f (afterIntern ms w) (answerIntern ms w)) (λ n. onward (pairs c (set e f (Number n))) ms)
+          by-sense (Next is) unexpected unexpected unexpected (λ w. symbolSet c e f (afterIntern ms w) (answerIntern ms w)) (λ n. onward (pairs c (set e f (Number n))) ms)
           refl refl refl (λ w. go w (answerIntern ms w) refl) (λ n. (judge (number n []) None, refl, refl, set-value (numeric n) (Number n) refl)) (λ w. (w, refl)) (λ k h. h) k
         where
           go : (w : List ℕ) (o : Option ℕ) → answerIntern ms w ≡ o → Next is (symbol w) (symbolSet c e f (afterIntern ms w) o)
@@ -398,10 +398,10 @@ module _ (ph : Phase) (cs : List Declared) (ns : List (List ℕ)) where
 
   at-tag : (js : List Judged) (k : Kind) → ph ≡ Commanding → js ≡ fine open′ ∷ fine (symbol (codes "remove")) ∷ [] → Next js (sense k) (turned ph cs ns tag (sense k))
   at-tag js k q e =
-      by-sense (Next js) bad bad bad (λ w. cond (sameBytes w (codes "*")) (onward (closing removesAll) ns) bad) (λ n. onward (closing (removes n)) ns)
+      by-sense (Next js) unexpected unexpected unexpected (λ w. cond (sameBytes w (codes "*")) (onward (closing removesAll) ns) unexpected) (λ n. onward (closing (removes n)) ns)
       refl refl refl
       (λ w.
-      cond-both (sameBytes w (codes "*")) (onward (closing removesAll) ns) bad (Next js (symbol w))
+      cond-both (sameBytes w (codes "*")) (onward (closing removesAll) ns) unexpected (Next js (symbol w))
       (λ t. (
         fine (symbol (codes "*")),
         ap symbol (sameBytes-decides w (codes "*") .0 t),
@@ -419,7 +419,7 @@ module _ (ph : Phase) (cs : List Declared) (ns : List (List ℕ)) where
 
   at-closing : (a : Act) (ms : List (List ℕ)) (js : List Judged) (k : Kind) → InClosing a ms js → Next js (sense k) (turned ph cs ms (closing a) (sense k))
   at-closing a ms js k h =
-      by-sense (Next js) bad (whole (commands a) ms) bad (λ _. bad) (λ _. bad)
+      by-sense (Next js) unexpected (whole (commands a) ms) unexpected (λ _. unexpected) (λ _. unexpected)
       refl (record { form = h .form; allowed = h .allowed; shown = h .shown; entry = h .entry; held = h .held }) refl
       (λ w. refl) (λ m. refl) (λ w. (w, refl)) (λ k h. h) k
 

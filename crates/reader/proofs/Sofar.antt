@@ -14,7 +14,7 @@ use Rattle.reader.specs.declared.refusal.Cause.{Cause}
 use Rattle.reader.specs.declared.refusal.Cause.the-variants.{IllegalWord, UnexpectedWord, WrongName, OverLimit}
 use Rattle.reader.specs.Refusals.{Fault, wrongName, overLimit, causeOf}
 use Rattle.reader.specs.Senses.{sense}
-use Rattle.reader.specs.Forms.{Entry, Judged, fine, judged, Clear, meant, namesAfter}
+use Rattle.reader.specs.Forms.{Entry, Judged, fine, judged, Faultless, meant, namesAfter}
 use Rattle.reader.specs.Machine.{State, opening, Step, onward, whole, fails, turned, Outcome, taken, stopped, onStep, run}
 use Rattle.reader.specs.Reading.{Spells, Takes, TakesNone, Viable, Begun, Reason}
 use Rattle.reader.proofs.Spelled.{halts, verdict, spelled-run}
@@ -28,12 +28,12 @@ spells-more [] j (f ∷ front) l ls h e = let z : _≡_ {A = ℕ} 0 1 = cc in ab
 spells-more (i ∷ js) j [] l ls h e = absurd h
 spells-more (i ∷ js) j (f ∷ front) l ls h e = (h .0, spells-more js j front l ls (h .1) e)
 
-clear-more : (js : List Judged) (j : Judged) → Clear js → j .fault ≡ None → Clear (js ++ j ∷ [])
+clear-more : (js : List Judged) (j : Judged) → Faultless js → j .fault ≡ None → Faultless (js ++ j ∷ [])
 clear-more [] j h e = (e, tt)
 clear-more (i ∷ js) j h e = (h .0, clear-more js j (h .1) e)
 
 -- words that break no rule come to the end
-verdict-clear : (js : List Judged) (ls after : List Lexeme) (o : Outcome) → Clear js → Spells js ls after → verdict js ls o ≡ o
+verdict-clear : (js : List Judged) (ls after : List Lexeme) (o : Outcome) → Faultless js → Spells js ls after → verdict js ls o ≡ o
 verdict-clear [] ls after o c h = refl
 verdict-clear (j ∷ js) [] after o c h = absurd h
 verdict-clear (j ∷ js) (l ∷ ls) after o c h = ap (λ f. halts f (l ∷ ls) (verdict js ls o)) (c .0) ∙ verdict-clear js ls after o (c .1) (h .1)
@@ -86,7 +86,7 @@ module _ (ph : Phase) (cs : List Declared) (ns : List (List ℕ)) where
   -- front was read, and led to the state s
   record Led (front : List Lexeme) (s : State) (ms : List (List ℕ)) (js : List Judged) : Type 0 where
     spelled : Spells js front []
-    clear : Clear js
+    clear : Faultless js
     at : At ph cs ns s ms js
     reached : (ls : List Lexeme) → run ph cs ns opening (front ++ ls) ≡ run ph cs ms s ls
 
@@ -122,7 +122,7 @@ module _ (ph : Phase) (cs : List Declared) (ns : List (List ℕ)) where
         form = n .form;
         allowed = n .allowed;
         spelled = subst (λ x. Spells x all ls) (sym (n .shown)) (subst (λ x. Spells (js ++ fine (sense (l .kind)) ∷ []) x ls) (sym a) (spells-more js (fine (sense (l .kind))) front l ls (h .spelled) refl));
-        clear = subst Clear (sym (n .shown)) (clear-more js (fine (sense (l .kind))) (h .clear) refl);
+        clear = subst Faultless (sym (n .shown)) (clear-more js (fine (sense (l .kind))) (h .clear) refl);
         entry = n .entry;
         names = n .held;
       }

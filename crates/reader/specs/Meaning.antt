@@ -12,7 +12,7 @@ use Rattle.rules.specs.Attributes.{Declared, declared}
 use Rattle.reader.specs.declared.form.Command.{Command}
 use Rattle.reader.specs.declared.form.Command.the-variants.{Make, Remove, RemoveAll, ListMemory}
 use Rattle.reader.specs.declared.form.Taken.{Taken}
-use Rattle.reader.specs.declared.form.Taken.the-variants.{Declaration, Order}
+use Rattle.reader.specs.declared.form.Taken.the-variants.{Declaration, Commanded}
 use Rattle.reader.specs.declared.refusal.Refusal.{Refusal}
 use Rattle.reader.specs.declared.state.State.{State as Reading}
 use Rattle.reader.specs.declared.state.State.the-variants.{Opening, Head, ClassName, Attributes, ElementClass, Pairs, Attribute, FieldValue, Tag, Closing}
@@ -21,15 +21,17 @@ use Rattle.reader.specs.declared.state.Step.the-variants.{Onward, Whole, Fails
 use Rattle.reader.specs.Forms.{Act, makes, removes, removesAll, lists, Entry, declares, commands}
 use Rattle.reader.specs.Machine.{State, opening, head, className, attributes, elementClass, pairs, attribute, fieldValue, tag, closing, Step, onward, whole, fails, Outcome, taken, stopped}
 
+-- what a command asks for
 abbrev pub actOf : Command → Act
 actOf (Make e) = makes (fieldsOf e)
 actOf (Remove n) = removes n
 actOf RemoveAll = removesAll
 actOf ListMemory = lists
 
+-- what a form asks for
 abbrev pub entryOf : Taken → Entry
 entryOf (Declaration c) = declares (declared c)
-entryOf (Order c) = commands (actOf c)
+entryOf (Commanded c) = commands (actOf c)
 
 -- the class that a form declares, and what a form commands
 abbrev pub classIn : Entry → Option Declared
@@ -40,6 +42,7 @@ abbrev pub actIn : Entry → Option Act
 actIn (declares c) = None
 actIn (commands a) = Some a
 
+-- a state of the code as a state of the reading
 abbrev pub stateOf : Reading → State
 stateOf Opening = opening
 stateOf Head = head

@@ -21,8 +21,8 @@ use Rattle.reader.specs.declared.refusal.Cause.{Cause}
 use Rattle.reader.specs.declared.refusal.Cause.the-variants.{IllegalWord, UnexpectedWord, WrongName, OverLimit}
 use Rattle.reader.specs.declared.refusal.Refusal.{Refusal}
 use Rattle.reader.specs.Refusals.{Fault, wrongName, overLimit}
-use Rattle.reader.specs.Senses.{sense, sort}
-use Rattle.reader.specs.Forms.{Form, Allowed, Entry, declares, commands, Judged, judged, Clear, meant, namesAfter}
+use Rattle.reader.specs.Senses.{sense, byKind}
+use Rattle.reader.specs.Forms.{Form, Allowed, Entry, declares, commands, Judged, judged, Faultless, meant, namesAfter}
 use Rattle.reader.specs.Meaning.{actOf, entryOf}
 
 -- the words ls begin by spelling the judged words, and then come `after`
@@ -38,13 +38,13 @@ module _ (ph : Phase) (cs : List Declared) (ns : List (List ℕ)) where
     pub form : Form
     pub allowed : Allowed ph form
     pub spelled : Spells (judged cs ns form) ls after
-    pub clear : Clear (judged cs ns form)
+    pub clear : Faultless (judged cs ns form)
     pub entry : e ≡ meant cs ns form
     pub names : ms ≡ namesAfter ns form
 
   -- no form of the phase that keeps every rule stands there
   abbrev pub TakesNone : List Lexeme → Type 0
-  TakesNone ls = (form : Form) (after : List Lexeme) → Allowed ph form → Spells (judged cs ns form) ls after → Clear (judged cs ns form) → ⊥
+  TakesNone ls = (form : Form) (after : List Lexeme) → Allowed ph form → Spells (judged cs ns form) ls after → Faultless (judged cs ns form) → ⊥
 
   -- some form of the phase begins with these words
   abbrev pub Viable : List Lexeme → Type 0
@@ -58,7 +58,7 @@ module _ (ph : Phase) (cs : List Declared) (ns : List (List ℕ)) where
     pub ahead : List Judged
     pub split : judged cs ns form ≡ here ++ ahead
     pub spelled : Spells here front []
-    pub clear : Clear here
+    pub clear : Faultless here
 
   -- some form of the phase goes on with the word l after words that break no rule, and l is the first to break one: this one
   pub record Faulty (front : List Lexeme) (l : Lexeme) (fault : Fault) : Type 0 where
@@ -69,7 +69,7 @@ module _ (ph : Phase) (cs : List Declared) (ns : List (List ℕ)) where
     pub ahead : List Judged
     pub split : judged cs ns form ≡ here ++ broken ∷ ahead
     pub spelled : Spells here front []
-    pub clear : Clear here
+    pub clear : Faultless here
     pub word : sense (l .kind) ≡ broken .word
     pub is : broken .fault ≡ Some fault
 
@@ -113,13 +113,13 @@ abbrev pub declaresNext : List Lexeme → Bool
 declaresNext [] = false
 declaresNext (l ∷ []) = false
 declaresNext (l ∷ k ∷ ls) =
-    sort (l .kind) true false false (λ _. false) (λ _. false) false false
-    && sort (k .kind) false false false (λ w. sameBytes w (codes "literalize")) (λ _. false) false false
+    byKind (l .kind) true false false (λ _. false) (λ _. false) false false
+    && byKind (k .kind) false false false (λ w. sameBytes w (codes "literalize")) (λ _. false) false false
 
 -- reading a declaration from a text of `end` bytes: the answer, and the classes, the names and the words left then
 abbrev pub ReadsDeclaration : ℕ → List Declared → List (List ℕ) → List Lexeme → Result Bool Refusal → List Declared → List (List ℕ) → List Lexeme → Type 0
 ReadsDeclaration end cs ns ls (Ok true) ds ms after =
-    (end ≤ longest) × ((c : Declared) × Takes Declaring cs ns ls (declares c) ms after × (ds ≡ cs ++ c ∷ []))
+    (end ≤ longest) × (declaresNext ls ≡ true) × ((c : Declared) × Takes Declaring cs ns ls (declares c) ms after × (ds ≡ cs ++ c ∷ []))
 ReadsDeclaration end cs ns ls (Ok false) ds ms after =
     (end ≤ longest) × (declaresNext ls ≡ false) × (ds ≡ cs) × (ms ≡ ns) × (after ≡ ls)
 ReadsDeclaration end cs ns ls (Err x) ds ms after =

@@ -20,16 +20,16 @@ sense (symbol w) = symbol w
 sense (illegal w) = illegal w
 
 -- one answer for each kind of word that a form of this language has, one for an illegal word and one for all others
-abbrev pub sort : {X : Type 0} → Kind → (onOpen onClose onHat : X) → (List ℕ → X) → (ℤ → X) → (onIllegal other : X) → X
-sort open′ o c h s n i e = o
-sort close′ o c h s n i e = c
-sort hat o c h s n i e = h
-sort minus o c h s n i e = e
-sort arrow o c h s n i e = e
-sort openChoice o c h s n i e = e
-sort closeChoice o c h s n i e = e
-sort (test p) o c h s n i e = e
-sort (number m w) o c h s n i e = n m
-sort (variable w) o c h s n i e = e
-sort (symbol w) o c h s n i e = s w
-sort (illegal w) o c h s n i e = i
+abbrev pub byKind : {X : Type 0} → Kind → (onOpen onClose onHat : X) → (List ℕ → X) → (ℤ → X) → (onIllegal other : X) → X
+byKind open′ o c h s n i e = o
+byKind close′ o c h s n i e = c
+byKind hat o c h s n i e = h
+byKind minus o c h s n i e = e
+byKind arrow o c h s n i e = e
+byKind openChoice o c h s n i e = e
+byKind closeChoice o c h s n i e = e
+byKind (test p) o c h s n i e = e
+byKind (number m w) o c h s n i e = n m
+byKind (variable w) o c h s n i e = e
+byKind (symbol w) o c h s n i e = s w
+byKind (illegal w) o c h s n i e = i

@@ -26,5 +26,5 @@ pub enum Command {
 #[derive(Clone, Copy)]
 pub(crate) enum Taken {
     Declaration(Class),
-    Order(Command),
+    Commanded(Command),
 }

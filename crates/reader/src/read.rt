@@ -15,7 +15,7 @@ ghost use Rattle.rules.specs.Bases.{declaringClasses, sealedClasses};
 ghost use Rattle.rules.specs.Declarations.{classesOf};
 ghost use Rattle.reader.specs.Machine.{opening, run};
 ghost use Rattle.reader.specs.Meaning.{actOf, entryOf, classIn, actIn, Ran, Grows};
-ghost use Rattle.reader.specs.Senses.{sort};
+ghost use Rattle.reader.specs.Senses.{byKind};
 ghost use Rattle.reader.specs.Reading.{Reads, longest, TooLong, declaresNext, ReadsDeclaration, ReadsCommand};
 use crate::form::Command;
 use crate::form::Phase;
@@ -119,8 +119,9 @@ fn declaration_comes(words: &Words) -> bool
     is_open(&first.token) && is_literalize(&second.token)
 }
 
+// Whether a word is `(`.
 fn is_open(token: &Token) -> bool
-    ensures { λ r. ⌜ r ≡ sort (kindOf (now (token .entry))) true false false (λ _. false) (λ _. false) false false ⌝ }
+    ensures { λ r. ⌜ r ≡ byKind (kindOf (now (token .entry))) true false false (λ _. false) (λ _. false) false false ⌝ }
 {
     match token {
         Token::Open => true,
@@ -128,8 +129,9 @@ fn is_open(token: &Token) -> bool
     }
 }
 
+// Whether a word is the head of a declaration.
 fn is_literalize(token: &Token) -> bool
-    ensures { λ r. ⌜ r ≡ sort (kindOf (now (token .entry))) false false false (λ w. sameBytes w (codes "literalize")) (λ _. false) false false ⌝ }
+    ensures { λ r. ⌜ r ≡ byKind (kindOf (now (token .entry))) false false false (λ w. sameBytes w (codes "literalize")) (λ _. false) false false ⌝ }
 {
     match token {
         Token::Symbol(word) => is(word, b"literalize"),
@@ -143,7 +145,7 @@ fn class_of(form: Taken) -> Option<Class>
 {
     match form {
         Taken::Declaration(class) => Some(class),
-        Taken::Order(_) => None,
+        Taken::Commanded(_) => None,
     }
 }
 
@@ -153,7 +155,7 @@ fn command_of(form: Taken) -> Option<Command>
 {
     match form {
         Taken::Declaration(_) => None,
-        Taken::Order(command) => Some(command),
+        Taken::Commanded(command) => Some(command),
     }
 }
 

@@ -2,9 +2,10 @@
 ghost use mathlib.Core.Path.{_≡_};
 ghost use Rattle.reader.specs.Refusals.{causeNumber};
 
+// Why a form is refused.
 #[derive(Clone, Copy, PartialEq, Eq, Debug)]
 pub enum Cause {
-    // A byte or a plain word that no text may have.
+    // A byte or a plain word that no text may have outside comments.
     IllegalWord,
     // A word that cannot continue a form, or the end of the text.
     UnexpectedWord,
@@ -14,7 +15,8 @@ pub enum Cause {
     OverLimit,
 }
 
-// A reader's refusal: why, and the first byte of the first broken word.
+// A reader's refusal: why, and where: the first byte of the first broken word, the text's length where the text ends too
+// early, or byte 32,768 of a text that is too long.
 #[derive(Clone, Copy, Debug)]
 pub struct Refusal {
     pub cause: Cause,

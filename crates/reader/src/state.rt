@@ -5,13 +5,14 @@ use crate::refusal::Cause;
 use rules::class::Class;
 use values::element::Element;
 
-// The element that a make sets, and its class.
+// The element that a make has filled so far, and its class.
 #[derive(Clone, Copy)]
 pub(crate) struct Filling {
     pub class: Class,
     pub element: Element,
 }
 
+// What may come next.
 #[derive(Clone, Copy)]
 pub(crate) enum State {
     // `(`

@@ -30,6 +30,7 @@ use values::names::Names;
 use values::value::Value;
 use words::token::Token;
 
+// The first word of a form: `(`.
 fn at_opening(token: &Token) -> Step
     ensures { λ r. ⌜ ((ns : List (List ℕ)) → Steps r ns (opened ns (sense (kindOf (now (token .entry)))))) ⌝ }
 {
@@ -40,6 +41,7 @@ fn at_opening(token: &Token) -> Step
     }
 }
 
+// The word that says which form it is.
 fn at_head(phase: Phase, token: &Token) -> Step
     ensures { λ r. ⌜ ((ns : List (List ℕ)) → Steps r ns (headed phase ns (sense (kindOf (now (token .entry)))))) ⌝ }
 {
@@ -50,6 +52,7 @@ fn at_head(phase: Phase, token: &Token) -> Step
     }
 }
 
+// The same, where it is a symbol.
 fn head_word(phase: Phase, word: &[u8]) -> Step
     ensures { λ r. ⌜ ((ns : List (List ℕ)) → Steps r ns (headWord phase ns (now (word .entry)))) ⌝ }
 {
@@ -84,6 +87,7 @@ fn class_cause(refusal: ClassRefusal) -> Cause
     }
 }
 
+// The class of a declaration.
 fn at_class_name(token: &Token, names: &mut Names, classes: &Classes) -> Step
     ensures step { λ r. ⌜ Steps r (held (now (names .exit))) (classed (classesOf (now (classes .entry))) (held (now (names .entry))) (sense (kindOf (now (token .entry))))) ⌝ }
     ensures names { λ _. ⌜ Grows (held (now (names .entry))) (held (now (names .exit))) ⌝ }
@@ -95,6 +99,7 @@ fn at_class_name(token: &Token, names: &mut Names, classes: &Classes) -> Step
     }
 }
 
+// The same, where it is a symbol: it gets a name, and must be new.
 fn class_name(word: &[u8], names: &mut Names, classes: &Classes) -> Step
     ensures step { λ r. ⌜ Steps r (held (now (names .exit))) (classWord (classesOf (now (classes .entry))) (held (now (names .entry))) (now (word .entry))) ⌝ }
     ensures names { λ _. ⌜ Grows (held (now (names .entry))) (held (now (names .exit))) ⌝ }
@@ -111,6 +116,7 @@ fn class_name(word: &[u8], names: &mut Names, classes: &Classes) -> Step
     Step::Onward(State::Attributes(Class::new(number)))
 }
 
+// An attribute of a declaration, or its end.
 fn at_attributes(class: Class, token: &Token, names: &mut Names) -> Step
     ensures step { λ r. ⌜ Steps r (held (now (names .exit))) (attributed (declared class) (held (now (names .entry))) (sense (kindOf (now (token .entry))))) ⌝ }
     ensures names { λ _. ⌜ Grows (held (now (names .entry))) (held (now (names .exit))) ⌝ }
@@ -123,6 +129,7 @@ fn at_attributes(class: Class, token: &Token, names: &mut Names) -> Step
     }
 }
 
+// An attribute gets a name, and must be new in its class.
 fn one_attribute(class: Class, word: &[u8], names: &mut Names) -> Step
     ensures step { λ r. ⌜ Steps r (held (now (names .exit))) (attributeWord (declared class) (held (now (names .entry))) (now (word .entry))) ⌝ }
     ensures names { λ _. ⌜ Grows (held (now (names .entry))) (held (now (names .exit))) ⌝ }
@@ -137,6 +144,7 @@ fn one_attribute(class: Class, word: &[u8], names: &mut Names) -> Step
     }
 }
 
+// The class of an element to make.
 fn at_element_class(token: &Token, names: &Names, classes: &Classes) -> Step
     ensures { λ r. ⌜ Steps r (held (now (names .entry))) (elementClassed (classesOf (now (classes .entry))) (held (now (names .entry))) (sense (kindOf (now (token .entry))))) ⌝ }
 {
@@ -147,6 +155,7 @@ fn at_element_class(token: &Token, names: &Names, classes: &Classes) -> Step
     }
 }
 
+// The same, where it is a symbol: it is only looked up.
 fn element_class(word: &[u8], names: &Names, classes: &Classes) -> Step
     ensures { λ r. ⌜ Steps r (held (now (names .entry))) (elementOf (held (now (names .entry))) (classAt (classesOf (now (classes .entry))) (numberOf (held (now (names .entry))) (now (word .entry))))) ⌝ }
 {
@@ -162,17 +171,19 @@ fn element_class(word: &[u8], names: &Names, classes: &Classes) -> Step
     }
 }
 
+// `^`, or the end of a make.
 fn at_pairs(filling: Filling, token: &Token) -> Step
     ensures { λ r. ⌜ ((ns : List (List ℕ)) → Steps r ns (paired (declared (filling .class)) (fieldsOf (filling .element)) ns (sense (kindOf (now (token .entry)))))) ⌝ }
 {
     match token {
         Token::Hat => Step::Onward(State::Attribute(filling)),
-        Token::Close => Step::Whole(Taken::Order(Command::Make(filling.element))),
+        Token::Close => Step::Whole(Taken::Commanded(Command::Make(filling.element))),
         Token::Illegal(_) => Step::Fails(Cause::IllegalWord),
         _ => Step::Fails(Cause::UnexpectedWord),
     }
 }
 
+// An attribute of an element to make.
 fn at_attribute(filling: Filling, token: &Token, names: &Names) -> Step
     ensures { λ r. ⌜ Steps r (held (now (names .entry))) (fieldNamed (declared (filling .class)) (fieldsOf (filling .element)) (held (now (names .entry))) (sense (kindOf (now (token .entry))))) ⌝ }
 {
@@ -183,6 +194,7 @@ fn at_attribute(filling: Filling, token: &Token, names: &Names) -> Step
     }
 }
 
+// The same, where it is a symbol: it is only looked up.
 fn field_name(filling: Filling, word: &[u8], names: &Names) -> Step
     ensures { λ r. ⌜ Steps r (held (now (names .entry))) (fieldFound (declared (filling .class)) (fieldsOf (filling .element)) (held (now (names .entry))) (fieldAt (declared (filling .class)) (numberOf (held (now (names .entry))) (now (word .entry))))) ⌝ }
 {
@@ -195,6 +207,7 @@ fn field_name(filling: Filling, word: &[u8], names: &Names) -> Step
     }
 }
 
+// The element with one field more set.
 fn with_value(filling: Filling, field: usize, value: Value) -> Step
     ensures { λ r. ⌜ ((ns : List (List ℕ)) → Steps r ns (onward (pairs (declared (filling .class)) (set (fieldsOf (filling .element)) field value)) ns)) ⌝ }
 {
@@ -206,6 +219,7 @@ fn with_value(filling: Filling, field: usize, value: Value) -> Step
     }))
 }
 
+// The value of a field: a number, or a symbol, which gets a name.
 fn at_field_value(filling: Filling, field: usize, token: &Token, names: &mut Names) -> Step
     ensures step { λ r. ⌜ Steps r (held (now (names .exit))) (valued (declared (filling .class)) (fieldsOf (filling .element)) field (held (now (names .entry))) (sense (kindOf (now (token .entry))))) ⌝ }
     ensures names { λ _. ⌜ Grows (held (now (names .entry))) (held (now (names .exit))) ⌝ }
@@ -221,6 +235,7 @@ fn at_field_value(filling: Filling, field: usize, token: &Token, names: &mut Nam
     }
 }
 
+// A time tag, or `*` for all.
 fn at_tag(token: &Token) -> Step
     ensures { λ r. ⌜ ((ns : List (List ℕ)) → Steps r ns (tagged ns (sense (kindOf (now (token .entry)))))) ⌝ }
 {
@@ -238,11 +253,12 @@ fn at_tag(token: &Token) -> Step
     }
 }
 
+// The end of a command.
 fn at_closing(command: Command, token: &Token) -> Step
     ensures { λ r. ⌜ ((ns : List (List ℕ)) → Steps r ns (closed (actOf command) ns (sense (kindOf (now (token .entry)))))) ⌝ }
 {
     match token {
-        Token::Close => Step::Whole(Taken::Order(command)),
+        Token::Close => Step::Whole(Taken::Commanded(command)),
         Token::Illegal(_) => Step::Fails(Cause::IllegalWord),
         _ => Step::Fails(Cause::UnexpectedWord),
     }

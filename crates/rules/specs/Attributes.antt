@@ -18,9 +18,11 @@ pub record Declared : Type 0 where
   pub name : ℕ
   pub attributes : List ℕ
 
+-- what a class of the code means
 abbrev pub declared : Class → Declared
 declared c = record { name = c .name; attributes = take (c .count) (c .attributes) }
 
+-- a class without attributes
 abbrev pub newClass : ℕ → Declared
 newClass n = record { name = n; attributes = [] }
 
@@ -28,6 +30,7 @@ newClass n = record { name = n; attributes = [] }
 abbrev pub fieldOf : Declared → ℕ → Option ℕ
 fieldOf c a = firstFrom (λ x. eqb x a) 1 (c .attributes)
 
+-- one attribute more at the end
 abbrev pub withAttribute : Declared → ℕ → Declared
 withAttribute c a = record { name = c .name; attributes = c .attributes ++ a ∷ [] }
 
@@ -35,5 +38,6 @@ withAttribute c a = record { name = c .name; attributes = c .attributes ++ a ∷
 abbrev pub answerAdd : Declared → ℕ → Result (Unit {0}) ClassRefusal
 answerAdd c a = cond (isSome (fieldOf c a)) (Err Twice) (cond (leb 15 (length (c .attributes))) (Err TooMany) (Ok tt))
 
+-- the class after that; a refusal changes nothing
 abbrev pub afterAdd : Declared → ℕ → Declared
 afterAdd c a = cond (isSome (fieldOf c a)) c (cond (leb 15 (length (c .attributes))) c (withAttribute c a))

@@ -6,7 +6,7 @@ use Rattle.rules.specs.declared.base.Declaring.{Declaring}
 use Rattle.rules.specs.declared.base.Entering.{Entering}
 use Rattle.rules.specs.declared.base.Sealed.{Sealed}
 
--- the declared classes, in the order of their declaration
+-- the declared classes of a base in each of its states, in the order of their declaration
 abbrev pub declaringClasses : Declaring → List Declared
 declaringClasses b = classesOf (b .classes)
 

@@ -28,5 +28,6 @@ findClass (c ∷ cs) n = cond (eqb (c .name) n) (Some c) (findClass cs n)
 abbrev pub answerDeclare : List Declared → Declared → Result (Unit {0}) ClassRefusal
 answerDeclare cs c = cond (isSome (findClass cs (c .name))) (Err Twice) (cond (leb 16 (length cs)) (Err TooMany) (Ok tt))
 
+-- the classes after that; a refusal changes nothing
 abbrev pub afterDeclare : List Declared → Declared → List Declared
 afterDeclare cs c = cond (isSome (findClass cs (c .name))) cs (cond (leb 16 (length cs)) cs (cs ++ c ∷ []))

@@ -1,5 +1,6 @@
-// The states of a rule base: classes are declared, then productions are entered, then it is sealed. Each move uses up the
-// state before it and cannot refuse, so a class cannot be declared late, and nothing can be entered into a sealed base.
+// The states of a rule base: classes are declared, then productions are entered (no call does that yet), then it is
+// sealed. Each move uses up the state before it and cannot refuse, so a class cannot be declared late, and nothing can be
+// entered into a sealed base.
 ghost use mathlib.Core.Path.{_≡_};
 ghost use mathlib.Core.List.{[]};
 ghost use Rattle.std.specs.Vec.{made};

@@ -25,4 +25,4 @@ pub enum ClassRefusal {
     TooMany,
 }
 
-pub mod methods;
+mod methods;

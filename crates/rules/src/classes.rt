@@ -14,4 +14,4 @@ pub struct Classes {
     ghost few: { vec-len list ≤ 16 },
 }
 
-pub mod methods;
+mod methods;

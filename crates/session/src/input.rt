@@ -1,5 +1,6 @@
 // Reading the text of a session.
 use crate::trouble::Trouble;
+use reader::read::LONGEST_TEXT;
 use std::alloc::Global;
 use std::env;
 use std::fs;
@@ -7,7 +8,7 @@ use std::io;
 use std::io::Read;
 
 // One byte more than a text may have, so that a text that is too long is refused as such.
-const MOST_READ: u64 = 32_769;
+const MOST_READ: u64 = LONGEST_TEXT as u64 + 1;
 
 // Reads to the end, or as much as is of use.
 fn read_some<R: Read + Drop>(heap: Global, input: R) -> io::Result<Vec<u8>> {

@@ -36,6 +36,7 @@ Nameless ns w = (i : ℕ) → i < length ns → getD ns i [] ≡ w → ⊥
 abbrev pub admits : List (List ℕ) → List ℕ → Bool
 admits ns w = ltb (length ns) 256 && nameable w
 
+-- the first of two answers that is there
 abbrev pub orElse : Option ℕ → Option ℕ → Option ℕ
 orElse None o = o
 orElse (Some i) o = Some i

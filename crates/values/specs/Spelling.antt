@@ -7,6 +7,7 @@ use lib.Dec.{leb}
 use lib.ListN.{length, getD, take}
 use Rattle.values.specs.declared.name.Name.{Name}
 
+-- the bytes of a name
 abbrev pub spelling : Name → List ℕ
 spelling n = take (n .len) (n .bytes)
 

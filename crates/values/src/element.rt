@@ -13,4 +13,4 @@ pub struct Element {
     ghost sixteen: { length fields ≡ 16 },
 }
 
-pub mod methods;
+mod methods;

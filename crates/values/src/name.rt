@@ -13,4 +13,4 @@ pub struct Name {
     ghost short: { len ≤ 24 },
 }
 
-pub mod methods;
+mod methods;

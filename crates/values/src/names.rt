@@ -21,4 +21,4 @@ pub struct Names {
     ghost distinct: { Distinct (map spelling (vec-items list)) },
 }
 
-pub mod methods;
+mod methods;

@@ -23,6 +23,7 @@ pub data Kind : Type 0 where
   number : ℤ → List ℕ → Kind
   variable symbol illegal : List ℕ → Kind
 
+-- the kind of a token
 abbrev pub kindOf : Token → Kind
 kindOf Open = open′
 kindOf Close = close′
@@ -47,7 +48,7 @@ predicate Greater = 62 ∷ []
 predicate AtLeast = 62 ∷ 61 ∷ []
 predicate SameKind = 60 ∷ 61 ∷ 62 ∷ []
 
--- a word's own bytes: those without bytes of their own are `(`, `)`, `^`, `-`, `-->`, `<<` and `>>`
+-- the bytes of a word: fixed for a mark, a special word or a predicate, else as they were written
 abbrev pub spelled : Kind → List ℕ
 spelled open′ = 40 ∷ []
 spelled close′ = 41 ∷ []
@@ -86,6 +87,7 @@ predicateOf w =
     (cond (sameBytes w (predicate AtLeast)) (Some AtLeast)
     (cond (sameBytes w (predicate SameKind)) (Some SameKind) None))))))
 
+-- a predicate, or else another kind
 abbrev pub orPredicate : Option Predicate → Kind → Kind
 orPredicate (Some p) k = test p
 orPredicate None k = k
@@ -99,7 +101,7 @@ namedKind w =
     (cond (sameBytes w (spelled closeChoice)) closeChoice
     (orPredicate (predicateOf w) (cond (isVariable w) (variable w) (symbol w))))))
 
--- by what a plain word is as a number
+-- the kind of a plain word, given what it is as a number
 abbrev pub numberKind : List ℕ → Numeral → Kind
 numberKind w NoNumber = cond (pointed w) (illegal w) (namedKind w)
 numberKind w OutOfRange = illegal w

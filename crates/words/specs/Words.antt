@@ -142,6 +142,7 @@ textOf r = r .text .now
 abbrev pub rest : Words → List Lexeme
 rest r = left (textOf r) (r .at) (r .state)
 
+-- a word of the code by its place and its kind
 abbrev pub lexeme : Word → Lexeme
 lexeme w = record { place = w .place; kind = kindOf (w .token) }
 

@@ -25,8 +25,8 @@ returns-in-Err g c =
     made-weaker (c .write-reader-refusal .result) _ _
     (λ x e.
     went-all end classes (held (c .args .names .now)) (rest (c .args .words .now)) (m (c .args .memory .now)) (vec-items (c .args .out .now)) ns ls (m (c .loop-next .memory)) (vec-items (c .loop-next .out)) (c .loop-next .inv .0)
-    (vec-items (c .write-reader-refusal .last .out)) (readerRefused (c .in-Err .refusal)) e
-    (inr (c .in-Err .refusal, held (c .read-command .last .names), rest (c .read-command .last .words), not-commanded (length (textOf (c .loop-next .words))) end (ap length (c .loop-next .inv .1)) classes ns (held (c .read-command .last .names)) ls (rest (c .read-command .last .words)) (c .in-Err .refusal) (c .in-Err .ensures tt .reads), refl)))
+    (held (c .read-command .last .names)) (rest (c .read-command .last .words)) (vec-items (c .write-reader-refusal .last .out)) (readerRefused (c .in-Err .refusal)) e
+    (inr (c .in-Err .refusal, not-commanded (length (textOf (c .loop-next .words))) end (ap length (c .loop-next .inv .1)) classes ns (held (c .read-command .last .names)) ls (rest (c .read-command .last .words)) (c .in-Err .refusal) (c .in-Err .ensures tt .reads), refl)))
     (c .write-reader-refusal .ensures)
 
 pub loop-next-less : need.loop-next-less
@@ -62,5 +62,5 @@ returns-in-None g c =
     let ns = held (c .loop-next .names) in
     let ls = rest (c .loop-next .words) in
     went-all end classes (held (c .args .names .now)) (rest (c .args .words .now)) (m (c .args .memory .now)) (vec-items (c .args .out .now)) ns ls (m (c .loop-next .memory)) (vec-items (c .loop-next .out)) (c .loop-next .inv .0)
-    (vec-items (c .loop-next .out)) [] (sym (append-nil (vec-items (c .loop-next .out))))
-    (inl (held (c .read-command .last .names), rest (c .read-command .last .words), commanded (length (textOf (c .loop-next .words))) end (ap length (c .loop-next .inv .1)) classes ns (held (c .read-command .last .names)) ls (rest (c .read-command .last .words)) (c .in-Ok .next) None (c .in-None .is) (c .in-Ok .ensures tt .reads), refl))
+    (held (c .read-command .last .names)) (rest (c .read-command .last .words)) (vec-items (c .loop-next .out)) [] (sym (append-nil (vec-items (c .loop-next .out))))
+    (inl (commanded (length (textOf (c .loop-next .words))) end (ap length (c .loop-next .inv .1)) classes ns (held (c .read-command .last .names)) ls (rest (c .read-command .last .words)) (c .in-Ok .next) None (c .in-None .is) (c .in-Ok .ensures tt .reads), refl))
