@@ -4,3 +4,4 @@ pub mod Spelled
 pub mod Progress
 pub mod Sofar
 pub mod Answering
+pub mod Settling

@@ -22,23 +22,23 @@ use Rattle.reader.proofs.Progress.{Legal, At, Failing, Ended, Next, next, goes
 
 -- ---- words one after another
 
-spells-more : (js : List Judged) (j : Judged) (front : List Lexeme) (l : Lexeme) (ls : List Lexeme) → Spells js front [] → sense (l .kind) ≡ j .word → Spells (js ++ j ∷ []) (front ++ l ∷ ls) ls
+pub spells-more : (js : List Judged) (j : Judged) (front : List Lexeme) (l : Lexeme) (ls : List Lexeme) → Spells js front [] → sense (l .kind) ≡ j .word → Spells (js ++ j ∷ []) (front ++ l ∷ ls) ls
 spells-more [] j [] l ls h e = (e, refl)
 spells-more [] j (f ∷ front) l ls h e = let z : _≡_ {A = ℕ} 0 1 = cc in absurd (omega arith)
 spells-more (i ∷ js) j [] l ls h e = absurd h
 spells-more (i ∷ js) j (f ∷ front) l ls h e = (h .0, spells-more js j front l ls (h .1) e)
 
-clear-more : (js : List Judged) (j : Judged) → Faultless js → j .fault ≡ None → Faultless (js ++ j ∷ [])
+pub clear-more : (js : List Judged) (j : Judged) → Faultless js → j .fault ≡ None → Faultless (js ++ j ∷ [])
 clear-more [] j h e = (e, tt)
 clear-more (i ∷ js) j h e = (h .0, clear-more js j (h .1) e)
 
 -- words that break no rule come to the end
-verdict-clear : (js : List Judged) (ls after : List Lexeme) (o : Outcome) → Faultless js → Spells js ls after → verdict js ls o ≡ o
+pub verdict-clear : (js : List Judged) (ls after : List Lexeme) (o : Outcome) → Faultless js → Spells js ls after → verdict js ls o ≡ o
 verdict-clear [] ls after o c h = refl
 verdict-clear (j ∷ js) [] after o c h = absurd h
 verdict-clear (j ∷ js) (l ∷ ls) after o c h = ap (λ f. halts f (l ∷ ls) (verdict js ls o)) (c .0) ∙ verdict-clear js ls after o (c .1) (h .1)
 
-taken-stopped : (e : Entry) (ms : List (List ℕ)) (after back : List Lexeme) (c : Cause) → taken e ms after ≡ stopped c back → ⊥
+pub taken-stopped : (e : Entry) (ms : List (List ℕ)) (after back : List Lexeme) (c : Cause) → taken e ms after ≡ stopped c back → ⊥
 taken-stopped e ms after back c h = let z : _≡_ {A = ℕ} 0 1 = cc in omega arith
 
 -- no word of a form is one that cannot continue it
@@ -84,11 +84,11 @@ module _ (ph : Phase) (cs : List Declared) (ns : List (List ℕ)) where
   Tells all (stopped c back) = Stopped all c back
 
   -- front was read, and led to the state s
-  record Led (front : List Lexeme) (s : State) (ms : List (List ℕ)) (js : List Judged) : Type 0 where
-    spelled : Spells js front []
-    clear : Faultless js
-    at : At ph cs ns s ms js
-    reached : (ls : List Lexeme) → run ph cs ns opening (front ++ ls) ≡ run ph cs ms s ls
+  pub record Led (front : List Lexeme) (s : State) (ms : List (List ℕ)) (js : List Judged) : Type 0 where
+    pub spelled : Spells js front []
+    pub clear : Faultless js
+    pub at : At ph cs ns s ms js
+    pub reached : (ls : List Lexeme) → run ph cs ns opening (front ++ ls) ≡ run ph cs ms s ls
 
   begins : (front : List Lexeme) (s : State) (ms : List (List ℕ)) (js : List Judged) → Led front s ms js → Begun ph cs ns front
   begins front s ms js h =
@@ -116,7 +116,7 @@ module _ (ph : Phase) (cs : List Declared) (ns : List (List ℕ)) where
       record { front = front; split = a; begun = begins front s ms js h; why = record { form = f .form; allowed = f .allowed; here = js; broken = f .broken; ahead = f .ahead; split = f .split; spelled = h .spelled; clear = h .clear; word = f .word; is = f .is } }
 
   -- the last word of a form
-  ended : (all front : List Lexeme) (s : State) (ms : List (List ℕ)) (js : List Judged) (l : Lexeme) (ls : List Lexeme) (e : Entry) (after : List (List ℕ)) → all ≡ front ++ l ∷ ls → Led front s ms js → Ended ph cs ns js (sense (l .kind)) e after → Takes ph cs ns all e after ls
+  pub ended : (all front : List Lexeme) (s : State) (ms : List (List ℕ)) (js : List Judged) (l : Lexeme) (ls : List Lexeme) (e : Entry) (after : List (List ℕ)) → all ≡ front ++ l ∷ ls → Led front s ms js → Ended ph cs ns js (sense (l .kind)) e after → Takes ph cs ns all e after ls
   ended all front s ms js l ls e after a h n =
       record {
         form = n .form;
@@ -128,7 +128,7 @@ module _ (ph : Phase) (cs : List Declared) (ns : List (List ℕ)) where
       }
 
   -- one word more
-  led-on : (front : List Lexeme) (s t : State) (ms after : List (List ℕ)) (js : List Judged) (l : Lexeme) (j : Judged) → Led front s ms js → turned ph cs ms s (sense (l .kind)) ≡ onward t after → sense (l .kind) ≡ j .word → j .fault ≡ None → At ph cs ns t after (js ++ j ∷ []) → Led (front ++ l ∷ []) t after (js ++ j ∷ [])
+  pub led-on : (front : List Lexeme) (s t : State) (ms after : List (List ℕ)) (js : List Judged) (l : Lexeme) (j : Judged) → Led front s ms js → turned ph cs ms s (sense (l .kind)) ≡ onward t after → sense (l .kind) ≡ j .word → j .fault ≡ None → At ph cs ns t after (js ++ j ∷ []) → Led (front ++ l ∷ []) t after (js ++ j ∷ [])
   led-on front s t ms after js l j h e w f g =
       record {
         spelled = spells-more js j front l [] (h .spelled) w;

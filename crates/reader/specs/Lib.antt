@@ -4,3 +4,4 @@ pub mod Forms
 pub mod Machine
 pub mod Meaning
 pub mod Reading
+pub mod Settled
