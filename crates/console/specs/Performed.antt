@@ -16,7 +16,7 @@ use Rattle.reader.specs.declared.form.Command.the-variants.{Make, Remove, Remov
 use Rattle.console.specs.Printed.{memoryRefused}
 use Rattle.console.specs.Listings.{Lists}
 
--- what removing by a written number answers: a number below 1 is no element's tag
+-- what removing by a written number answers: a number below 1 counts as a tag that no element has
 abbrev pub answerRemoving : Model → ℤ → Result (Unit {0}) MemoryRefusal
 answerRemoving m (pos n) = cond (eqb n 0) (Err NoSuchTag) (answerRemove m n)
 answerRemoving m (negsuc n) = Err NoSuchTag

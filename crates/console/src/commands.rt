@@ -17,7 +17,7 @@ use std::alloc::AllocError;
 use std::alloc::Global;
 use values::names::Names;
 
-// Removes the element with a time tag. No element has a tag below 1.
+// Removes the element with a time tag. A number below 1 counts as a tag that no element has.
 fn remove<M: Memory>(memory: &mut M, tag: i32) -> Result<(), MemoryRefusal>
     ensures answer { λ r. ⌜ r ≡ answerRemoving (meant (M·Facts .facts) (M·Memory .last) (M·Memory .room) (now (memory .entry))) tag ⌝ }
     ensures after { λ _. ⌜ meant (M·Facts .facts) (M·Memory .last) (M·Memory .room) (now (memory .exit)) ≡ afterRemoving (meant (M·Facts .facts) (M·Memory .last) (M·Memory .room) (now (memory .entry))) tag ⌝ }

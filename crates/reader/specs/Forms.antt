@@ -1,4 +1,4 @@
--- The forms of the language: the words that spell each, what is illegalHere with a word, and what a form means. Assumes nothing.
+-- The forms of the language: the words that spell each, what is wrong with a word, and what a form means. Assumes nothing.
 use mathlib.Core.Path.{_≡_}
 use mathlib.Core.Bool.{Bool, false, cond, not, _||_}
 use mathlib.Core.List.{List, [], _∷_, _++_}
@@ -88,12 +88,12 @@ abbrev pub fieldAt : Declared → Option ℕ → Option ℕ
 fieldAt c None = None
 fieldAt c (Some i) = fieldOf c i
 
--- whether a word is among others
+-- whether a word is one of these
 abbrev pub among : List ℕ → List (List ℕ) → Bool
 among w [] = false
 among w (x ∷ xs) = sameBytes x w || among w xs
 
--- ---- what is illegalHere with a word; the lower number first
+-- ---- what is wrong with a word; the lower number first
 
 -- the class of a declaration: a class has the number that its symbol has or gets; then one class too many, or no name can
 -- be given
@@ -121,8 +121,9 @@ abbrev pub valueFault : List (List ℕ) → Constant → Option Fault
 valueFault ns (symbolic w) = cond (unnameable ns w) (Some overLimit) None
 valueFault ns (numeric n) = None
 
--- ---- the words of a form, each with what is illegalHere with it where everything before it is right
+-- ---- the words of a form, each with what is wrong with it where everything before it is right
 
+-- a word of a form, and the rule that it breaks, if any
 pub record Judged : Type 0 where
   pub word : Kind
   pub fault : Option Fault
@@ -174,7 +175,7 @@ judged cs ns (remove n) = fine open′ ∷ fine (symbol (codes "remove")) ∷ fi
 judged cs ns removeAll = fine open′ ∷ fine (symbol (codes "remove")) ∷ fine (symbol (codes "*")) ∷ fine close′ ∷ []
 judged cs ns listMemory = fine open′ ∷ fine (symbol (codes "wm")) ∷ fine close′ ∷ []
 
--- nothing is illegalHere with any of the words
+-- nothing is wrong with any of the words
 abbrev pub Faultless : List Judged → Type 0
 Faultless [] = Unit {0}
 Faultless (j ∷ js) = (j .fault ≡ None) × Faultless js

@@ -38,7 +38,7 @@ pub data Step : Type 0 where
   whole : Entry → List (List ℕ) → Step
   fails : Cause → Step
 
--- refused where something is illegalHere
+-- refused where something is wrong
 abbrev pub unless : Option Fault → Step → Step
 unless None s = s
 unless (Some f) s = fails (causeOf f)

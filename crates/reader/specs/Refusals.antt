@@ -12,7 +12,7 @@ causeNumber UnexpectedWord = 2
 causeNumber WrongName = 3
 causeNumber OverLimit = 6
 
--- what can be illegalHere with a word that continues a form
+-- what can be wrong with a word that continues a form
 pub data Fault : Type 0 where
   wrongName overLimit : Fault
 
