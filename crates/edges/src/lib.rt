@@ -1,4 +1,6 @@
 // The language's edges: texts, and what a session of each prints.
+#![tactic(auto)]
+
 #[cfg(test)]
 mod bytes;
 #[cfg(test)]

@@ -1,7 +1,7 @@
 -- How a memory's meaning changes, for every memory. Assumes nothing.
 use Rattle.std.proofs.Common.{◌≡◌, ℕ, ◌+◌, ◌<◌, cond, eqb, leb, [], ◌∷◌, ◌++◌, length, Some, Ok, sym, ap, ◌∙◌}
 use Rattle.std.specs.List.{remove}
-use Rattle.std.proofs.lemmas.Bool.{cond-false, ne_eqb, lt_leb}
+use Rattle.std.proofs.lemmas.Bool.{cond-false, ne_eqb, lt-leb}
 use Rattle.values.specs.declared.element.Element.{Element}
 use Rattle.facts.specs.Model.{Model, model, fact, highest_tag, find_tag, without, removal, answer_add, after_add, answer_remove, after_remove}
 
@@ -12,7 +12,7 @@ same_model m m' f l c = λ i. record { facts = f i; last = l i; capacity = c i }
 module _ (m : Model) (left : m.last < highest_tag) (free : length m.facts ≡ m.capacity → ⊥) where
   goes : {X : Type 0} (x y z : X) → cond (leb highest_tag m.last) x (cond (eqb (length m.facts) m.capacity) y z) ≡ z
   goes x y z =
-      cond-false (leb highest_tag m.last) x _ (lt_leb highest_tag m.last left)
+      cond-false (leb highest_tag m.last) x _ (lt-leb highest_tag m.last left)
       ∙ cond-false (eqb (length m.facts) m.capacity) y z (ne_eqb _ _ free)
 
   pub added-answer : Ok (m.last + 1) ≡ answer_add m

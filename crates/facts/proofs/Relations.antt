@@ -1,7 +1,7 @@
 -- The functions of the model say exactly the relations of the laws. Assumes nothing.
 use Rattle.std.proofs.Common.{◌≡◌, ℕ, zero, suc, ◌+◌, Bool, true, false, cond, eqb, leb, List, [], ◌∷◌, ◌++◌, length, Some, None, Ok, Err, Option, Result, sym, refl, ap, ◌∙◌, subst, arith}
 use Rattle.std.specs.List.{remove}
-use Rattle.std.proofs.lemmas.Bool.{leb-true, leb-false, eqb-true, eqb-false, le-leb, lt_leb, eq-eqb}
+use Rattle.std.proofs.lemmas.Bool.{leb-true, leb-false, eqb-true, eqb-false, le-leb, lt-leb, eq-eqb}
 use Rattle.values.specs.declared.element.Element.{Element}
 use Rattle.facts.specs.declared.fact.Fact.{Fact}
 use Rattle.facts.specs.declared.refusal.MemoryRefusal.{MemoryRefusal}
@@ -34,7 +34,7 @@ added-to m e (Err TagsUsedUp) m' h =
     let used = le-leb highest_tag m.last h.0 in
     (rw used, h.1 ∙ rw used)
 added-to m e (Err Full) m' h =
-    let left = lt_leb highest_tag m.last h.0 in
+    let left = lt-leb highest_tag m.last h.0 in
     let full = eq-eqb (length m.facts) m.capacity h.1 in
     (rw (left, full), h.2 ∙ rw (left, full))
 added-to m e (Err NoSuchTag) m' h = absurd h

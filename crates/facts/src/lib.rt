@@ -1,4 +1,6 @@
 // Facts that can be read, memories that can also be written, and the plain memory.
+#![tactic(auto)]
+
 pub mod fact;
 pub mod plain;
 pub mod refusal;

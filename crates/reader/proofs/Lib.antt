@@ -1,6 +1,7 @@
-pub mod Following
-pub mod Kindwise
-pub mod Steps
-pub mod Rests
 pub mod Turning
+pub mod Matched
+pub mod Spelled
+pub mod Progress
+pub mod Sofar
 pub mod Answering
+pub mod Settling

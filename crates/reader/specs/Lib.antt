@@ -1,9 +1,5 @@
 pub mod Refusals
 pub mod Senses
-pub mod Scripts
-pub mod Languages
-pub mod Machines
-pub mod Naming
 pub mod Forms
 pub mod Machine
 pub mod Meaning

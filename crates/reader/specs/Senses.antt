@@ -1,6 +1,5 @@
 -- Words as the grammar sees them. Assumes nothing.
-use Rattle.std.specs.Prelude.{ℕ, Bool, true, false, List, []}
-use Rattle.std.specs.Str.{bytes_eq}
+use Rattle.std.specs.Prelude.{ℕ, List, [], ℤ}
 use Rattle.words.specs.Kinds.{Kind, open', close', hat, minus, arrow, open_choice, close_choice, test, number, variable, symbol, illegal}
 
 -- a number counts by its value, however it is written
@@ -18,32 +17,17 @@ sense (variable w) = variable w
 sense (symbol w) = symbol w
 sense (illegal w) = illegal w
 
--- the word is `(`
-abbrev pub is_open : Kind → Bool
-is_open open' = true
-is_open close' = false
-is_open hat = false
-is_open minus = false
-is_open arrow = false
-is_open open_choice = false
-is_open close_choice = false
-is_open (test p) = false
-is_open (number n w) = false
-is_open (variable w) = false
-is_open (symbol w) = false
-is_open (illegal w) = false
-
--- the word is this symbol
-abbrev pub is_symbol : List ℕ → Kind → Bool
-is_symbol s open' = false
-is_symbol s close' = false
-is_symbol s hat = false
-is_symbol s minus = false
-is_symbol s arrow = false
-is_symbol s open_choice = false
-is_symbol s close_choice = false
-is_symbol s (test p) = false
-is_symbol s (number n w) = false
-is_symbol s (variable w) = false
-is_symbol s (symbol w) = bytes_eq w s
-is_symbol s (illegal w) = false
+-- one answer for each kind of word that a form of this language has, one for an illegal word and one for all others
+abbrev pub by_kind : {X : Type 0} → Kind → (onOpen onClose onHat : X) → (List ℕ → X) → (ℤ → X) → (onIllegal other : X) → X
+by_kind open' o c h s n i e = o
+by_kind close' o c h s n i e = c
+by_kind hat o c h s n i e = h
+by_kind minus o c h s n i e = e
+by_kind arrow o c h s n i e = e
+by_kind open_choice o c h s n i e = e
+by_kind close_choice o c h s n i e = e
+by_kind (test p) o c h s n i e = e
+by_kind (number m w) o c h s n i e = n m
+by_kind (variable w) o c h s n i e = e
+by_kind (symbol w) o c h s n i e = s w
+by_kind (illegal w) o c h s n i e = i

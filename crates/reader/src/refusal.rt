@@ -9,13 +9,8 @@ pub enum Cause {
     IllegalWord,
     // A word that cannot continue a form, or the end of the text.
     UnexpectedWord,
-    // A class that is undeclared or lacks the attribute, or a class, an attribute of one class or a production named twice.
+    // A class that is undeclared or lacks the attribute, or a class or an attribute of one class named twice.
     WrongName,
-    // A variable first met under a predicate other than `=`, first met in a negated condition and again in a later one, or
-    // in an action and in no unnegated condition.
-    WrongVariable,
-    // A number that names no unnegated condition.
-    NoSuchCondition,
     // More than a limit allows.
     OverLimit,
 }
@@ -37,8 +32,6 @@ impl Cause {
             Cause::IllegalWord => 1,
             Cause::UnexpectedWord => 2,
             Cause::WrongName => 3,
-            Cause::WrongVariable => 4,
-            Cause::NoSuchCondition => 5,
             Cause::OverLimit => 6,
         }
     }

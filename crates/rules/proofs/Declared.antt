@@ -1,6 +1,6 @@
 -- Looking up attributes and classes, and one more of each. Assumes nothing.
 use Rattle.std.proofs.Common.{◌≡◌, ℕ, ◌+◌, ◌<◌, ◌≤◌, false, cond, eqb, leb, List, [], ◌∷◌, ◌++◌, length, get_or, take, drop, set, is_some, Some, None, Ok, Err, vec_items, vec_len, Option, sym, refl, ap, ◌∙◌, arith, length-take-le, get_or-take, eq-eqb, ne_eqb, le-leb}
-use borrow.Author.Tests.{lt_leb}
+use borrow.Author.Tests.{lt-leb}
 use Rattle.std.proofs.lemmas.List.{at_drop_more, at_drop_all, take_more_set}
 use Rattle.std.proofs.lemmas.Bool.{cond-true, cond-false}
 use Rattle.std.specs.Option.{option_map}
@@ -21,29 +21,29 @@ attribute-at c i h = get_or-take c.count c.attributes i 0 h
 -- one attribute more
 module _ (c : Declared) (a : ℕ) (new : is_some (field_of c a) ≡ false) (room : length c.attributes < 15) where
   pub added-answer : Ok tt ≡ answer_add c a
-  added-answer = sym (cond-false (is_some (field_of c a)) _ _ new ∙ cond-false (leb 15 (length c.attributes)) _ _ (lt_leb 15 (length c.attributes) room))
+  added-answer = sym (cond-false (is_some (field_of c a)) _ _ new ∙ cond-false (leb 15 (length c.attributes)) _ _ (lt-leb 15 (length c.attributes) room))
 
   pub added-after : (c' : Declared) → c' ≡ with_attribute c a → c' ≡ after_add c a
-  added-after c' e = e ∙ sym (cond-false (is_some (field_of c a)) _ _ new ∙ cond-false (leb 15 (length c.attributes)) _ _ (lt_leb 15 (length c.attributes) room))
+  added-after c' e = e ∙ sym (cond-false (is_some (field_of c a)) _ _ new ∙ cond-false (leb 15 (length c.attributes)) _ _ (lt-leb 15 (length c.attributes) room))
 
 pub pushed : (name : ℕ) (xs ys : List ℕ) (n a : ℕ) → n < length xs → ys ≡ set xs n a → ◌≡◌ {A = Declared} (record { name = name; attributes = take (n + 1) ys }) (with_attribute (record { name = name; attributes = take n xs }) a)
 pushed name xs ys n a h e = ap (λ l. record { name = name; attributes = l }) (ap (take (n + 1)) e ∙ take_more_set xs n a h)
 
 -- the class at the place i
-pub class-hit : (cs : List Declared) (i n : ℕ) (c : Declared) → i < length cs → c ≡ get_or cs i c → c.name ≡ n → find_class (drop i cs) n ≡ Some c
-class-hit cs i n c h e g =
+pub class_hit : (cs : List Declared) (i n : ℕ) (c : Declared) → i < length cs → c ≡ get_or cs i c → c.name ≡ n → find_class (drop i cs) n ≡ Some c
+class_hit cs i n c h e g =
     at_drop_more (λ l. find_class l n) cs i c h
     ∙ ap (λ x. cond (eqb x.name n) (Some x) (find_class (drop (i + 1) cs) n)) (sym e)
     ∙ cond-true (eqb c.name n) _ _ (eq-eqb c.name n g)
 
-pub class-miss : (cs : List Declared) (i n : ℕ) (c : Declared) → i < length cs → c ≡ get_or cs i c → (c.name ≡ n → ⊥) → find_class (drop i cs) n ≡ find_class (drop (i + 1) cs) n
-class-miss cs i n c h e g =
+pub class_miss : (cs : List Declared) (i n : ℕ) (c : Declared) → i < length cs → c ≡ get_or cs i c → (c.name ≡ n → ⊥) → find_class (drop i cs) n ≡ find_class (drop (i + 1) cs) n
+class_miss cs i n c h e g =
     at_drop_more (λ l. find_class l n) cs i c h
     ∙ ap (λ x. cond (eqb x.name n) (Some x) (find_class (drop (i + 1) cs) n)) (sym e)
     ∙ cond-false (eqb c.name n) _ _ (ne_eqb c.name n g)
 
-pub class-none : (cs : List Declared) (i n : ℕ) → length cs ≤ i → find_class (drop i cs) n ≡ None
-class-none cs i n h = at_drop_all (λ l. find_class l n) cs i h
+pub class_none : (cs : List Declared) (i n : ℕ) → length cs ≤ i → find_class (drop i cs) n ≡ None
+class_none cs i n h = at_drop_all (λ l. find_class l n) cs i h
 
 pub classes-counted : (c : Classes) → length (classes_of c) ≡ vec_len c.list
 classes-counted c = mapped_length declared (vec_items c.list) (vec_items c.list) refl ∙ sym c.list.ok.0
@@ -57,14 +57,14 @@ module _ (cs : List Declared) (c : Declared) (o : Option Class) (looked : option
   undeclared : is_some (find_class cs c.name) ≡ false
   undeclared = ap is_some (sym looked) ∙ sym (mapped_some o) ∙ sym new
 
-  pub full-answer : 16 ≤ length cs → (Err TooMany ≡ answer_declare cs c) × (cs ≡ after_declare cs c)
-  full-answer h = (
+  pub full_answer : 16 ≤ length cs → (Err TooMany ≡ answer_declare cs c) × (cs ≡ after_declare cs c)
+  full_answer h = (
     sym (cond-false (is_some (find_class cs c.name)) _ _ undeclared ∙ cond-true (leb 16 (length cs)) _ _ (le-leb 16 (length cs) h)),
     sym (cond-false (is_some (find_class cs c.name)) _ _ undeclared ∙ cond-true (leb 16 (length cs)) _ _ (le-leb 16 (length cs) h)),
   )
 
   pub declared-answer : length cs < 16 → (Ok tt ≡ answer_declare cs c) × (cs ++ c ∷ [] ≡ after_declare cs c)
   declared-answer h = (
-    sym (cond-false (is_some (find_class cs c.name)) _ _ undeclared ∙ cond-false (leb 16 (length cs)) _ _ (lt_leb 16 (length cs) h)),
-    sym (cond-false (is_some (find_class cs c.name)) _ _ undeclared ∙ cond-false (leb 16 (length cs)) _ _ (lt_leb 16 (length cs) h)),
+    sym (cond-false (is_some (find_class cs c.name)) _ _ undeclared ∙ cond-false (leb 16 (length cs)) _ _ (lt-leb 16 (length cs) h)),
+    sym (cond-false (is_some (find_class cs c.name)) _ _ undeclared ∙ cond-false (leb 16 (length cs)) _ _ (lt-leb 16 (length cs) h)),
   )

@@ -1,11 +1,6 @@
-// The rule base: declared classes, rules, and the three states that a base goes through.
-pub mod action;
+// The rule base: declared classes, and the three states that a base goes through.
+#![tactic(auto)]
+
 pub mod base;
 pub mod class;
 pub mod classes;
-pub mod condition;
-pub mod conditions;
-pub mod place;
-pub mod rule;
-pub mod size;
-pub mod specificity;

@@ -1,4 +1,6 @@
 // Runs the session of a text, that of the named file or of standard input, and prints what it gives.
+#![tactic(auto)]
+
 mod input;
 mod trouble;
 

@@ -6,8 +6,8 @@ use Rattle.values.specs.Naming.{number_of, admits, or_else, answer_intern, after
 use Rattle.values.proofs.Finding.{found, found_before, found-last}
 
 -- what is named keeps its number
-pub kept-number : (ns : List (List ℕ)) (x w : List ℕ) (i : ℕ) → number_of ns w ≡ Some i → number_of (after_intern ns x) w ≡ Some i
-kept-number ns x w i e = go (is_some (number_of ns x)) (admits ns x)
+pub kept_number : (ns : List (List ℕ)) (x w : List ℕ) (i : ℕ) → number_of ns w ≡ Some i → number_of (after_intern ns x) w ≡ Some i
+kept_number ns x w i e = go (is_some (number_of ns x)) (admits ns x)
   where
     go : (b d : Bool) → number_of (cond b ns (cond d (ns ++ x ∷ []) ns)) w ≡ Some i
     go true d = e

@@ -1,7 +1,7 @@
 -- Reading the digits of a number. Assumes nothing.
 use Rattle.std.proofs.Common.{◌≡◌, ℕ, ◌+◌, ◌-◌, ◌*◌, ◌<◌, ◌≤◌, min, true, cond, ◌&&◌, leb, List, length, get_or, take, drop, Some, None, sym, refl, ap, ◌∙◌, arith}
 use Rattle.std.proofs.lemmas.List.{at_drop_more, at_drop_all, take_rest}
-use Rattle.std.proofs.lemmas.Bool.{le-leb, lt_leb}
+use Rattle.std.proofs.lemmas.Bool.{le-leb, lt-leb}
 use Rattle.words.specs.Numbers.{decimal, capped, signed, unsigned}
 
 -- what the byte at a place does, and then where it is a digit, is below the digits, or is past them
@@ -16,14 +16,14 @@ pub digit-here :
 digit-here ds i n h low high = byte-here ds i n h ∙ rw (le-leb 48 (get_or ds i 0) low, le-leb (get_or ds i 0) 57 high) refl
 
 pub below_digits : (ds : List ℕ) (i n : ℕ) → i < length ds → get_or ds i 0 < 48 → decimal n (drop i ds) ≡ None
-below_digits ds i n h low = byte-here ds i n h ∙ rw (lt_leb 48 (get_or ds i 0) low) refl
+below_digits ds i n h low = byte-here ds i n h ∙ rw (lt-leb 48 (get_or ds i 0) low) refl
 
 pub past_digits : (ds : List ℕ) (i n : ℕ) → i < length ds → 48 ≤ get_or ds i 0 → 57 < get_or ds i 0 → decimal n (drop i ds) ≡ None
-past_digits ds i n h low high = byte-here ds i n h ∙ rw (le-leb 48 (get_or ds i 0) low, lt_leb (get_or ds i 0) 57 high) refl
+past_digits ds i n h low high = byte-here ds i n h ∙ rw (le-leb 48 (get_or ds i 0) low, lt-leb (get_or ds i 0) 57 high) refl
 
 -- the bound does not change what one digit more makes, up to the bound
-pub kept-min : (v n d c : ℕ) → v ≡ min n c → d ≤ 9 → 1 ≤ c → min (v * 10 + d) c ≡ min (n * 10 + d) c
-kept-min v n d c e h k = omega arith
+pub kept_min : (v n d c : ℕ) → v ≡ min n c → d ≤ 9 → 1 ≤ c → min (v * 10 + d) c ≡ min (n * 10 + d) c
+kept_min v n d c e h k = omega arith
 
 -- a byte that is no digit, and the end
 pub none_at : (ds : List ℕ) (i n : ℕ) → decimal n (drop i ds) ≡ decimal 0 ds → decimal n (drop i ds) ≡ None → None ≡ capped (decimal 0 ds)

@@ -67,8 +67,8 @@ predicate-bytes w k h =
     (if-predicate w AtMost _ k
     (if-predicate w Greater _ k (if-predicate w AtLeast _ k (if-predicate w SameKind _ k h))))))
 
-named-bytes : (w : List ℕ) → Spells w (variable w) → Spells w (symbol w) → Spells w (named_kind w)
-named-bytes w v s =
+named_bytes : (w : List ℕ) → Spells w (variable w) → Spells w (symbol w) → Spells w (named_kind w)
+named_bytes w v s =
     if_word w minus _
     (if_word w arrow _
     (if_word w open_choice _
@@ -76,7 +76,7 @@ named-bytes w v s =
 
 number-bytes : (w : List ℕ) (n : Numeral) → Spells w (number_kind w n)
 unfolding Spells
-number-bytes w NoNumber = either (pointed w) w (illegal w) (named_kind w) refl (named-bytes w refl refl)
+number-bytes w NoNumber = either (pointed w) w (illegal w) (named_kind w) refl (named_bytes w refl refl)
 number-bytes w OutOfRange = refl
 number-bytes w (Value n) = refl
 
@@ -86,5 +86,5 @@ unfolding Spells
 word_bytes w = number-bytes w (numeral w)
 
 -- a word that is no number and has no comma and no period
-pub named-word : (w : List ℕ) (k : Kind) → k ≡ named_kind w → NoNumber ≡ numeral w → false ≡ pointed w → k ≡ word_kind w
-named-word w k h n p = h ∙ ap (λ b. cond b (illegal w) (named_kind w)) p ∙ ap (number_kind w) n
+pub named_word : (w : List ℕ) (k : Kind) → k ≡ named_kind w → NoNumber ≡ numeral w → false ≡ pointed w → k ≡ word_kind w
+named_word w k h n p = h ∙ ap (λ b. cond b (illegal w) (named_kind w)) p ∙ ap (number_kind w) n

@@ -36,8 +36,8 @@ feed b h = grind (arith, nat_tests)
 abbrev Under : List ℕ → ℕ → Type 0
 Under t p = (j : ℕ) × (j < p) × (get_or t j 0 ≡ 59) × ((k : ℕ) → j ≤ k → k < p → get_or t k 0 ≡ 10 → ⊥)
 
-under-commented : (t : List ℕ) (p : ℕ) → Under t p → Commented t p
-under-commented t p u = (u.0, omega (arith, u.1), u.2, u.3)
+under_commented : (t : List ℕ) (p : ℕ) → Under t p → Commented t p
+under_commented t p u = (u.0, omega (arith, u.1), u.2, u.3)
 
 not_commented : (t : List ℕ) (p : ℕ) (c : Class) → class_of (get_or t p 0) ≡ c → Differ c Semicolon → (Under t p → ⊥) → Commented t p → ⊥
 not_commented t p c e n o (j, h, f, g) =
@@ -265,7 +265,7 @@ in-comment :
     (t bs : List ℕ) (p : ℕ) (c : Class) → class_of (get_or t p 0) ≡ c → Differ c Feed → Exactly t bs (p + 1) → Under t p
     → Exact t p (scan comment (p + 1) bs)
 in-comment t bs p c e n more u =
-    let inner = under-commented t p u in
+    let inner = under_commented t p u in
     pass t p _ (λ k w. w.0 inner) (more comment (under_more t p c e n inner))
 
 from-comment :

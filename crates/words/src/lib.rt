@@ -1,4 +1,6 @@
 // The words of a rule text.
+#![tactic(auto)]
+
 mod bytes;
 mod kinds;
 mod numbers;

@@ -1,5 +1,5 @@
 use Rattle.std.proofs.Common.{◌+◌, ◌-◌, ◌*◌, get_or, sym, ◌∙◌, arith}
-use Rattle.words.proofs.Digits.{digit-here, below_digits, past_digits, kept-min, none_at, all_read}
+use Rattle.words.proofs.Digits.{digit-here, below_digits, past_digits, kept_min, none_at, all_read}
 use Rattle.words.proofs.numbers.magnitude.Goals as goal
 use Rattle.words.proofs.numbers.magnitude.Goals.{then-d-lt48-via-then-d-lt48, then-d-lt48-via-else-d-lt48+then-d-gt57}
 
@@ -20,7 +20,7 @@ loop-d-preserved c =
     let d = get_or ds i 0 in
     let (n, is, left) = c.loop-d.invariant in (
       n * 10 + (d - 48),
-      c.min-value.ensures ∙ kept-min c.loop-d.value n (d - 48) 4294967296 is (omega arith) (omega arith),
+      c.min-value.ensures ∙ kept_min c.loop-d.value n (d - 48) 4294967296 is (omega arith) (omega arith),
       sym (digit-here ds i n c.loop-d-test.true c.if-d-lt48.false c.if-d-gt57.false) ∙ left,
     )
 
