@@ -8,8 +8,8 @@ use Rattle.console.proofs.listing.write_elements.Goals as goal
 pub loop-place-preserved : goal.loop-place-preserved
 loop-place-preserved g c =
     line_more (line_at (held c.args.names.now) (classes_of c.args.classes.now) (g.F.Facts.facts c.args.facts.now))
-    (vec_items c.args.out.now) (vec_items c.loop-place.out) (vec_items c.write-element.new.out) c.args.places.now c.loop-place.place-index _
-    (omega arith) refl c.loop-place.invariant c.in-ok-write-element.ensures
+    (vec_items c.args.out.now) (vec_items c.loop-place.out) (vec_items c.write_element.new.out) c.args.places.now c.loop-place.place-index _
+    (omega arith) refl c.loop-place.invariant c.in_ok-write_element.ensures
 
 pub returns : goal.returns
 returns g c =

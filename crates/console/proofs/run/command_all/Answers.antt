@@ -17,12 +17,12 @@ returns-in-Err g c =
     let classes = sealed_classes c.args.base.now in
     let ns = held c.loop-next.names in
     let ls = rest c.loop-next.words in
-    IfOk-weaker c.write-reader-refusal.result _ _
+    IfOk-weaker c.write_reader_refusal.result _ _
     (λ x e.
     went_all end classes (held c.args.names.now) (rest c.args.words.now) (m c.args.memory.now) (vec_items c.args.out.now) ns ls (m c.loop-next.memory) (vec_items c.loop-next.out) c.loop-next.invariant.0
-    (held c.read-command.new.names) (rest c.read-command.new.words) (vec_items c.write-reader-refusal.new.out) (reader_refused c.in-Err.refusal) e
-    (inr (c.in-Err.refusal, not_commanded (length (text_of c.loop-next.words)) end (ap length c.loop-next.invariant.1) classes ns (held c.read-command.new.names) ls (rest c.read-command.new.words) c.in-Err.refusal c.in-Err.ensures.reads, refl)))
-    c.write-reader-refusal.ensures
+    (held c.read_command.new.names) (rest c.read_command.new.words) (vec_items c.write_reader_refusal.new.out) (reader_refused c.in-Err.refusal) e
+    (inr (c.in-Err.refusal, not_commanded (length (text_of c.loop-next.words)) end (ap length c.loop-next.invariant.1) classes ns (held c.read_command.new.names) ls (rest c.read_command.new.words) c.in-Err.refusal c.in-Err.ensures.reads, refl)))
+    c.write_reader_refusal.ensures
 
 pub loop-next-smaller : goal.loop-next-smaller
 loop-next-smaller g c =
@@ -30,8 +30,8 @@ loop-next-smaller g c =
     let classes = sealed_classes c.args.base.now in
     let ns = held c.loop-next.names in
     let ls = rest c.loop-next.words in
-    fewer_commands end classes ns (held c.read-command.new.names) ls (rest c.read-command.new.words) c.in-Some.command
-    (commanded (length (text_of c.loop-next.words)) end (ap length c.loop-next.invariant.1) classes ns (held c.read-command.new.names) ls (rest c.read-command.new.words) c.in-Ok.next (Some c.in-Some.command) c.in-Some.is c.in-Ok.ensures.reads)
+    fewer_commands end classes ns (held c.read_command.new.names) ls (rest c.read_command.new.words) c.in-Some.command
+    (commanded (length (text_of c.loop-next.words)) end (ap length c.loop-next.invariant.1) classes ns (held c.read_command.new.names) ls (rest c.read_command.new.words) c.in-Ok.next (Some c.in-Some.command) c.in-Some.is c.in-Ok.ensures.reads)
 
 pub loop-next-preserved : goal.loop-next-preserved
 loop-next-preserved g c =
@@ -40,12 +40,12 @@ loop-next-preserved g c =
     let classes = sealed_classes c.args.base.now in
     let ns = held c.loop-next.names in
     let ls = rest c.loop-next.words in
-    let ms = held c.read-command.new.names in (
+    let ms = held c.read_command.new.names in (
       went_more end classes (held c.args.names.now) (rest c.args.words.now) (m c.args.memory.now) (vec_items c.args.out.now) ns ls (m c.loop-next.memory) (vec_items c.loop-next.out) c.loop-next.invariant.0
-          ms (rest c.read-command.new.words) (m c.perform.new.memory) (vec_items c.perform.new.out) c.in-Some.command
-          (commanded (length (text_of c.loop-next.words)) end (ap length c.loop-next.invariant.1) classes ns ms ls (rest c.read-command.new.words) c.in-Ok.next (Some c.in-Some.command) c.in-Some.is c.in-Ok.ensures.reads)
+          ms (rest c.read_command.new.words) (m c.perform.new.memory) (vec_items c.perform.new.out) c.in-Some.command
+          (commanded (length (text_of c.loop-next.words)) end (ap length c.loop-next.invariant.1) classes ns ms ls (rest c.read_command.new.words) c.in-Ok.next (Some c.in-Some.command) c.in-Some.is c.in-Ok.ensures.reads)
           c.perform.ensures.after
-          (subst (λ k. Appends (vec_items c.loop-next.out) (vec_items c.perform.new.out) (Prints ms k (m c.loop-next.memory) c.in-Some.command)) c.classes.ensures c.in-ok-perform.ensures.prints),
+          (subst (λ k. Appends (vec_items c.loop-next.out) (vec_items c.perform.new.out) (Prints ms k (m c.loop-next.memory) c.in-Some.command)) c.classes.ensures c.in_ok-perform.ensures.prints),
       c.in-Ok.ensures.text ∙ c.loop-next.invariant.1,
     )
 
@@ -57,5 +57,5 @@ returns-in-None g c =
     let ns = held c.loop-next.names in
     let ls = rest c.loop-next.words in
     went_all end classes (held c.args.names.now) (rest c.args.words.now) (m c.args.memory.now) (vec_items c.args.out.now) ns ls (m c.loop-next.memory) (vec_items c.loop-next.out) c.loop-next.invariant.0
-    (held c.read-command.new.names) (rest c.read-command.new.words) (vec_items c.loop-next.out) [] (sym (append-nil (vec_items c.loop-next.out)))
-    (inl (commanded (length (text_of c.loop-next.words)) end (ap length c.loop-next.invariant.1) classes ns (held c.read-command.new.names) ls (rest c.read-command.new.words) c.in-Ok.next None c.in-None.is c.in-Ok.ensures.reads, refl))
+    (held c.read_command.new.names) (rest c.read_command.new.words) (vec_items c.loop-next.out) [] (sym (append-nil (vec_items c.loop-next.out)))
+    (inl (commanded (length (text_of c.loop-next.words)) end (ap length c.loop-next.invariant.1) classes ns (held c.read_command.new.names) ls (rest c.read_command.new.words) c.in-Ok.next None c.in-None.is c.in-Ok.ensures.reads, refl))

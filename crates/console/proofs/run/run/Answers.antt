@@ -9,27 +9,27 @@ use Rattle.console.specs.Sessions.{reached, left}
 use Rattle.console.proofs.Going.{from_start, commands-whole}
 use Rattle.console.proofs.run.run.Goals as goal
 
-pub returns-in-err-command-all : goal.returns-in-err-command-all
-returns-in-err-command-all c =
-    let p = err_from_is_err_and c.from-residual-in-err-command-all.result c.from-residual-in-err-command-all.ensures.1 in
+pub returns-in_err-command_all : goal.returns-in_err-command_all
+returns-in_err-command_all c =
+    let p = err_from_is_err_and c.from_residual-in_err-command_all.result c.from_residual-in_err-command_all.ensures.1 in
     rw p.1 tt
 
 pub returns : goal.returns
 returns c =
     let text = c.args.text.now in
     let w = c.new-words.result in
-    let d = c.declare-all.new in
+    let d = c.declare_all.new in
     let n = c.new-memory in
-    let room : plain_room n.result ≡ 256 = omega (arith, n.ensures.room, c.deref-mut.ensures.len, c.in-ok-places.ensures.made) in
+    let room : plain_room n.result ≡ 256 = omega (arith, n.ensures.room, c.deref_mut.ensures.len, c.in_ok-places.ensures.made) in
     let same : plain_model n.result ≡ model [] 0 256 = λ i. model (n.ensures.facts i) (n.ensures.last i) (room i) in
-    let q = left (held c.command-all.new.names) (rest c.command-all.new.words) (plain_model c.command-all.new.memory) in
+    let q = left (held c.command_all.new.names) (rest c.command_all.new.words) (plain_model c.command_all.new.memory) in
     let end = ap length c.new-words.ensures.text in (
       Ok tt,
       reached (declaring_classes d.base) (held d.names) (rest d.words),
-      from_start text (length (text_of w)) (declaring_classes c.in-ok-base.base) (held c.in-ok-names.names) (rest w) (Ok tt) (reached (declaring_classes d.base) (held d.names) (rest d.words)) end c.in-ok-base.ensures c.in-ok-names.ensures c.new-words.ensures.words c.in-default.ensures.all,
+      from_start text (length (text_of w)) (declaring_classes c.in_ok-base.base) (held c.in_ok-names.names) (rest w) (Ok tt) (reached (declaring_classes d.base) (held d.names) (rest d.words)) end c.in_ok-base.ensures c.in_ok-names.ensures c.new-words.ensures.words c.in_default.ensures.all,
       (
         q,
-        commands-whole (length (text_of d.words)) (length text) (sealed_classes c.seal-base.result) (declaring_classes d.base) (held d.names) (rest d.words) (plain_model n.result) (model [] 0 256) q (vec_items c.new-out.result) (vec_items c.command-all.new.out)
-            (ap length c.declare-all.ensures.text ∙ end) c.new-out.ensures.items (c.seal-base.ensures ∙ c.enter.ensures) same c.in-ok-command-all.ensures,
+        commands-whole (length (text_of d.words)) (length text) (sealed_classes c.seal-base.result) (declaring_classes d.base) (held d.names) (rest d.words) (plain_model n.result) (model [] 0 256) q (vec_items c.new-out.result) (vec_items c.command_all.new.out)
+            (ap length c.declare_all.ensures.text ∙ end) c.new-out.ensures.items (c.seal-base.ensures ∙ c.enter.ensures) same c.in_ok-command_all.ensures,
       ),
     )

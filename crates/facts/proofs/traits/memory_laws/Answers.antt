@@ -1,5 +1,5 @@
-use Rattle.facts.proofs.Relations.{memory-laws}
+use Rattle.facts.proofs.Relations.{memory_laws}
 use Rattle.facts.proofs.traits.memory_laws.Goals as goal
 
 pub returns : goal.returns
-returns c = memory-laws
+returns c = memory_laws

@@ -11,6 +11,6 @@ use Rattle.reader.proofs.read.read_declaration.Goals as goal
 pub returns-in-Some : goal.returns-in-Some
 returns-in-Some c =
     record {
-      reads = (c.in-ok-check-length.ensures, sym c.if-not-declaration-comes.ensures, declare_taken (declaring_classes c.args.base.now) (classes_of c.classes.result.now) _ (held c.args.names.now) _ (rest c.args.words.now) _ (entry_of c.in-ok-form.form) (declared c.in-Some.class) c.classes.ensures c.in-ok-form.ensures.reads c.in-Some.ensures c.declare.ensures.after);
-      text = c.in-ok-form.ensures.text;
+      reads = (c.in_ok-check_length.ensures, sym c.if-not-declaration_comes.ensures, declare_taken (declaring_classes c.args.base.now) (classes_of c.classes.result.now) _ (held c.args.names.now) _ (rest c.args.words.now) _ (entry_of c.in_ok-form.form) (declared c.in-Some.class) c.classes.ensures c.in_ok-form.ensures.reads c.in-Some.ensures c.declare.ensures.after);
+      text = c.in_ok-form.ensures.text;
     }

@@ -19,7 +19,7 @@ returns-in-Err c =
     record {
       reads =
           refused c.args.phase (classes_of c.args.classes.now) (held names) (rest c.args.words.now) (length (text_of c.args.words.now)) c.in-Err.refusal (held c.keep.new.self) _ c.in-Err.ensures.ran
-          (kept_names (held names) (held c.read-words.new.names) (held c.keep.new.self) c.count-count.result (some_name names) c.count-count.ensures c.in-Err.ensures.names c.keep.ensures)
+          (kept_names (held names) (held c.read_words.new.names) (held c.keep.new.self) c.count-count.result (some_name names) c.count-count.ensures c.in-Err.ensures.names c.keep.ensures)
           refl;
       text = refl;
     }

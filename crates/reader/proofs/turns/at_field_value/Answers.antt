@@ -18,7 +18,7 @@ returns-in-Number c =
     let f : SFits w32 c.in-Number.n = search rules in
     record {
       step =
-          subst (λ t. Steps c.with-value.result ns (valued class fields c.args.field ns (sense (kind_of t)))) (sym c.in-Number.is)
-          (subst (λ z. Steps c.with-value.result ns (onward (pairs class (set fields c.args.field (Number z))) ns)) (to_z-of_z w32 c.in-Number.n f) (c.with-value.ensures ns));
+          subst (λ t. Steps c.with_value.result ns (valued class fields c.args.field ns (sense (kind_of t)))) (sym c.in-Number.is)
+          (subst (λ z. Steps c.with_value.result ns (onward (pairs class (set fields c.args.field (Number z))) ns)) (to_z-of_z w32 c.in-Number.n f) (c.with_value.ensures ns));
       names = search rules;
     }

@@ -8,6 +8,6 @@ use Rattle.reader.proofs.turns.one_attribute.Goals as goal
 pub returns-in-Err : goal.returns-in-Err
 returns-in-Err c =
     record {
-      step = ap fails c.class-cause.ensures ∙ not_added (declared c.args.class) (held c.args.names.now) c.args.word.now c.in-Some.number c.in-Err.refusal c.in-Some.ensures.answer c.in-Err.ensures.answer;
+      step = ap fails c.class_cause.ensures ∙ not_added (declared c.args.class) (held c.args.names.now) c.args.word.now c.in-Some.number c.in-Err.refusal c.in-Some.ensures.answer c.in-Err.ensures.answer;
       names = search rules;
     }

@@ -1,5 +1,5 @@
 use Rattle.words.proofs.Digits.{past_sign}
 use Rattle.words.proofs.numbers.without_sign.Goals as goal
 
-pub returns-then-is-signed : goal.returns-then-is-signed
-returns-then-is-signed c = past_sign c.args.word.now c.if-is-signed.ensures
+pub returns-then-is_signed : goal.returns-then-is_signed
+returns-then-is_signed c = past_sign c.args.word.now c.if-is_signed.ensures

@@ -22,9 +22,9 @@ returns c =
     let long = front_length s.count xs in
     let free : length m.facts ≡ m.capacity → ⊥ = λ e. c.if-count-capacity.false (omega arith) in
     record {
-      answer = added-answer m c.if-self-ge-LAST-TAG.false free;
+      answer = added-answer m c.if-self-ge-LAST_TAG.false free;
       after =
-          added-after m c.if-self-ge-LAST-TAG.false free c.args.element.now _
+          added-after m c.if-self-ge-LAST_TAG.false free c.args.element.now _
           (front-push (min s.count 256) c.count-count.result xs _ c.count-count.ensures (omega arith) (omega arith))
           refl
           (ap (λ k. min k 256) (length-set xs c.count-count.result _));

@@ -17,8 +17,8 @@ overflow-add-place c =
     let s = c.args.self.now in
     omega (arith, place_in s.count s.places.now c.args.tag c.in-Some.place c.in-Some.ensures)
 
-pub copy-within-requires : goal.copy-within-requires
-copy-within-requires c =
+pub copy_within-requires : goal.copy_within-requires
+copy_within-requires c =
     let s = c.args.self.now in
     let long = front_length s.count s.places.now in
     let lt = place_in s.count s.places.now c.args.tag c.in-Some.place c.in-Some.ensures in
@@ -37,7 +37,7 @@ returns-in-Some c =
     let m = model (take (min s.count 256) xs) s.last (min (length xs) 256) in
     let n = c.count-count.result in
     let p = c.in-Some.place in
-    let moved = c.copy-within.ensures.after in
+    let moved = c.copy_within.ensures.after in
     let found = sym c.in-Some.ensures in
     let long = front_length s.count xs in
     let lt = place_in s.count xs c.args.tag p c.in-Some.ensures in
@@ -47,6 +47,6 @@ returns-in-Some c =
           removed-after m c.args.tag p found _
           (front-removed n p xs _ moved (omega arith) (omega arith) (omega arith) (min s.count 256) c.count-count.ensures)
           refl
-          (ap (λ k. min k 256) c.copy-within.ensures.len);
+          (ap (λ k. min k 256) c.copy_within.ensures.len);
       rest = rest-removed n p xs _ moved (omega arith) (omega arith) (omega arith);
     }

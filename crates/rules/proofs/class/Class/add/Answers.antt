@@ -7,7 +7,7 @@ pub returns : goal.returns
 returns c =
     let class = c.args.self.now in
     let a = c.args.attribute in
-    let new = ap is_some (sym c.field-of.ensures) ∙ sym c.if-is-some.ensures in
+    let new = ap is_some (sym c.field_of.ensures) ∙ sym c.if-is_some.ensures in
     record {
       answer = added-answer (declared class) a new (omega (arith, counted class));
       after =

@@ -15,7 +15,7 @@ returns-then-is c =
     let xs = vec_items names.list in
     let e = c.deref-name-items.ensures.value in
     let long = mapped_length spelling xs _ e in
-    let read = c.as-bytes.ensures ∙ mapped_read spelling xs _ i c.name-item.result [] e c.name-item.is c.loop-i-test.true in
+    let read = c.as_bytes.ensures ∙ mapped_read spelling xs _ i c.name-item.result [] e c.name-item.is c.loop-i-test.true in
     let is = ap (λ b. bytes_eq b w) (sym read) ∙ sym c.if-is.ensures in
     let value : Some i ≡ number_of (held names) w = sym (hit (λ n. bytes_eq n w) [] (held names) i i (omega arith) is) ∙ c.loop-i.invariant in
     record { value = value; law = by_law (held names) w (Some i) names.distinct value }
@@ -28,7 +28,7 @@ loop-i-preserved c =
     let xs = vec_items names.list in
     let e = c.deref-name-items.ensures.value in
     let long = mapped_length spelling xs _ e in
-    let read = c.as-bytes.ensures ∙ mapped_read spelling xs _ i c.name-item.result [] e c.name-item.is c.loop-i-test.true in
+    let read = c.as_bytes.ensures ∙ mapped_read spelling xs _ i c.name-item.result [] e c.name-item.is c.loop-i-test.true in
     sym (miss (λ n. bytes_eq n w) [] (held names) i i (omega arith) (ap (λ b. bytes_eq b w) (sym read) ∙ sym c.if-is.ensures)) ∙ c.loop-i.invariant
 
 pub returns : goal.returns

@@ -5,8 +5,8 @@ use Rattle.values.proofs.Lookups.{taken-first, taken-distinct}
 use Rattle.values.proofs.Mapped.{mapped_take}
 use Rattle.values.proofs.names.Names.keep.Goals as goal
 
-pub invariant-of-self : goal.invariant-of-self
-invariant-of-self c =
+pub invariant_of-self : goal.invariant_of-self
+invariant_of-self c =
     let names = c.args.self.now in
     let less = mapped_take spelling (vec_items names.list) _ _ _ c.max.ensures c.truncate.ensures.items in (
       search rules,

@@ -9,7 +9,7 @@ returns-in-Some c =
     let e = c.deref.ensures.value in
     let f = c.in-Some.ensures.lookup in
     let long = mapped_length spelling xs _ e in
-    (omega arith, c.as-bytes.ensures ∙ mapped_read spelling xs _ c.args.number c.in-Some.name.now [] e f.1 (omega arith))
+    (omega arith, c.as_bytes.ensures ∙ mapped_read spelling xs _ c.args.number c.in-Some.name.now [] e f.1 (omega arith))
 
 pub returns-in-None : goal.returns-in-None
 returns-in-None c =
