@@ -15,19 +15,13 @@ returns-then-number-ge-MOST_NAMES c =
 pub invariant_of-self : goal.invariant_of-self
 invariant_of-self c =
     let names = c.args.self.now in
-    let grown = mapped_push spelling (vec_items names.list) _ c.in-Some-new.name c.args.word.now c.push_reserved.ensures.items c.in-Some-new.ensures in (
-      search rules,
-      (
-        search rules,
-        (
-          ap (λ l. get_or l 0 []) grown ∙ pushed_first (held names) _ names.nil,
-          (
-            subst Distinct (sym grown) (pushed_distinct (held names) c.args.word.now names.distinct c.in_default.ensures.law),
-            tt,
-          ),
-        ),
-      ),
-    )
+    let grown = mapped_push spelling (vec_items names.list) _ c.in-Some-new.name c.args.word.now c.push_reserved.ensures.items c.in-Some-new.ensures in
+    record {
+      reserved = search rules;
+      few = search rules;
+      nil = ap (λ l. get_or l 0 []) grown ∙ pushed_first (held names) _ names.nil;
+      distinct = subst Distinct (sym grown) (pushed_distinct (held names) c.args.word.now names.distinct c.in_default.ensures.law);
+    }
 
 pub returns : goal.returns
 returns c =

@@ -8,19 +8,13 @@ use Rattle.values.proofs.names.Names.keep.Goals as goal
 pub invariant_of-self : goal.invariant_of-self
 invariant_of-self c =
     let names = c.args.self.now in
-    let less = mapped_take spelling (vec_items names.list) _ _ _ c.max.ensures c.truncate.ensures.items in (
-      search rules,
-      (
-        search rules,
-        (
-          ap (λ l. get_or l 0 []) less ∙ taken-first (held names) c.args.count names.nil,
-          (
-            subst Distinct (sym less) (taken-distinct (held names) _ names.distinct),
-            tt,
-          ),
-        ),
-      ),
-    )
+    let less = mapped_take spelling (vec_items names.list) _ _ _ c.max.ensures c.truncate.ensures.items in
+    record {
+      reserved = search rules;
+      few = search rules;
+      nil = ap (λ l. get_or l 0 []) less ∙ taken-first (held names) c.args.count names.nil;
+      distinct = subst Distinct (sym less) (taken-distinct (held names) _ names.distinct);
+    }
 
 pub returns : goal.returns
 returns c =
