@@ -2,7 +2,7 @@
 use Rattle.std.proofs.Common.{◌≡◌, ℕ, ◌+◌, ◌-◌, ◌<◌, ◌≤◌, min, List, [], ◌∷◌, ◌++◌, map, length, get_or, take, drop, set, sym, ap, ◌∙◌, ⊎_elim, add-one, arith}
 use lib.Seq.{paste}
 use Rattle.std.specs.List.{remove}
-use Rattle.std.proofs.lemmas.List.{length-take, length-map, length-take-le, length-drop, length-set, get_or-map, get_or-take, get_or_past, take_more_set, take-take, take_all, drop-take, drop-set_lt}
+use Rattle.std.proofs.lemmas.List.{length-take, length-map, length-take-le, length-drop, length-set, get_or-map, get_or-take, get_or_past, take_more_set, take-take, take_all, drop-take, drop-set-lt}
 use Rattle.std.proofs.lemmas.List.Edits.{take-paste, drop-paste, length-paste}
 use Rattle.std.proofs.lemmas.Bool.{cases_lt}
 use Rattle.values.specs.Elements.{nil, fields_of}
@@ -49,7 +49,7 @@ front-push m n xs f is lt low =
 -- and the places past it
 pub rest-push : (n : ℕ) (xs : List Fact) (f : Fact) → n < length xs → n < 256 → drop (length (take (min (n + 1) 256) (set xs n f))) (set xs n f) ≡ drop (length (take (min (n + 1) 256) (set xs n f))) xs
 rest-push n xs f lt low =
-    drop-set_lt (length (take (min (n + 1) 256) (set xs n f))) xs n f (omega (arith, front_length (n + 1) (set xs n f), length-set xs n f))
+    drop-set-lt (length (take (min (n + 1) 256) (set xs n f))) xs n f (omega (arith, front_length (n + 1) (set xs n f), length-set xs n f))
 
 -- ys: the pairs after place p are moved one place down, and the places past them are left
 module _ (n p : ℕ) (xs ys : List Fact) (is : ys ≡ paste xs p (drop (p + 1) xs) (n - (p + 1))) (lt : p < n) (inside : n ≤ length xs) (low : n ≤ 256) where

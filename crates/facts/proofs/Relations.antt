@@ -113,8 +113,8 @@ cleared-to m m' e =
 moved : {R : Type 0} (P : R → Model → Type 0) (r r' : R) (m m' : Model) → P r' m' → (r ≡ r') × (m ≡ m') → P r m
 moved P r r' m m' h e = subst (λ x. P x m) (sym e.0) (subst (P r') (sym e.1) h)
 
-pub memory-laws : MemoryLaws
-memory-laws =
+pub memory_laws : MemoryLaws
+memory_laws =
     record {
       found = found-law;
       added = λ m e r m'. (moved (Added m e) r (answer_add m) m' (after_add m e) (added-by m e _ _ refl refl), added-to m e r m');

@@ -2,8 +2,8 @@ use Rattle.std.proofs.Common.{min, take, arith}
 use Rattle.facts.proofs.Fronts.{front_length, tag_in, tag-out}
 use Rattle.facts.proofs.plain.PlainMemoryFacts.tag_at.Goals as goal
 
-pub offset-bounds-self-place : goal.offset-bounds-self-place
-offset-bounds-self-place c = let m = c.args.self.now in omega (arith, front_length m.count m.places.now)
+pub offset_bounds-self-place : goal.offset_bounds-self-place
+offset_bounds-self-place c = let m = c.args.self.now in omega (arith, front_length m.count m.places.now)
 
 pub bounds-self-place : goal.bounds-self-place
 bounds-self-place c = let m = c.args.self.now in omega (arith, front_length m.count m.places.now)

@@ -12,8 +12,8 @@ place_in count xs t p e =
     let h = ((found-law (take (min count 256) xs) t (Some p)).0 e).inside in
     omega (arith, front_length count xs)
 
-pub overflow-add-place : goal.overflow-add-place
-overflow-add-place c =
+pub overflow_add-place : goal.overflow_add-place
+overflow_add-place c =
     let s = c.args.self.now in
     omega (arith, place_in s.count s.places.now c.args.tag c.in-Some.place c.in-Some.ensures)
 
@@ -22,10 +22,10 @@ copy_within-requires c =
     let s = c.args.self.now in
     let long = front_length s.count s.places.now in
     let lt = place_in s.count s.places.now c.args.tag c.in-Some.place c.in-Some.ensures in
-    record { start-le-end = omega arith; in_bounds = omega arith; dest-in-bounds = omega arith; not-exhausted = tt }
+    record { start_le_end = omega arith; in_bounds = omega arith; dest_in_bounds = omega arith; not_exhausted = tt }
 
-pub overflow-sub-self : goal.overflow-sub-self
-overflow-sub-self c =
+pub overflow_sub-self : goal.overflow_sub-self
+overflow_sub-self c =
     let s = c.args.self.now in
     let long = front_length s.count s.places.now in
     omega (arith, place_in s.count s.places.now c.args.tag c.in-Some.place c.in-Some.ensures)
