@@ -45,7 +45,7 @@ loop-next-preserved g c =
           ms (rest c.read_command.new.words) (m c.perform.new.memory) (vec_items c.perform.new.out) c.in-Some.command
           (commanded (length (text_of c.loop-next.words)) end (ap length c.loop-next.invariant.1) classes ns ms ls (rest c.read_command.new.words) c.in-Ok.next (Some c.in-Some.command) c.in-Some.is c.in-Ok.ensures.reads)
           c.perform.ensures.after
-          (subst (λ k. Appends (vec_items c.loop-next.out) (vec_items c.perform.new.out) (Prints ms k (m c.loop-next.memory) c.in-Some.command)) c.classes.ensures c.in_ok-perform.ensures.prints),
+          (subst (λ k. Appends (vec_items c.loop-next.out) (vec_items c.perform.new.out) (Prints ms k (m c.loop-next.memory) c.in-Some.command)) c.classes.ensures c.in_ok-perform-in-Some.ensures.prints),
       c.in-Ok.ensures.text ∙ c.loop-next.invariant.1,
     )
 
