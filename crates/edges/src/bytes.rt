@@ -1,5 +1,6 @@
 // Every byte, in several places.
 use crate::expect::*;
+use std::test::Fail;
 
 // Some bytes that no word has.
 const STRANGE: [Case; 12] = [

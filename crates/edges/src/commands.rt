@@ -1,5 +1,6 @@
 // Makes, working memory, and which form may come when.
 use crate::expect::*;
+use std::test::Fail;
 
 // After `(literalize a x)(literalize b y z)`, which has 34 bytes.
 const MAKES: [Case; 32] = [

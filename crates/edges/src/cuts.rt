@@ -2,6 +2,7 @@
 use crate::expect::*;
 use std::alloc::Global;
 use std::process::Abort;
+use std::test::Fail;
 
 // A word of a form, from its first byte to past its last, of which no proper beginning may stand there: such a beginning
 // is refused by this number.

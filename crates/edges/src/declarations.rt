@@ -1,5 +1,6 @@
 // Classes and attributes.
 use crate::expect::*;
+use std::test::Fail;
 
 const DECLARED: [Case; 30] = [
     // Attributes.

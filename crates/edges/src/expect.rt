@@ -15,7 +15,7 @@ pub(crate) fn expect(
 ) -> Result<(), Fail> {
     let got = run(heap, text)?;
     assert!(rt;
-        got == printed,
+        got.as_slice() == printed,
         "{}; {}; {}",
         format_args!("the text {}", text.escape_ascii()),
         format_args!("prints {}", got.escape_ascii()),
@@ -33,7 +33,15 @@ pub(crate) fn expect_after(
 ) -> Result<(), Fail> {
     for (text, printed) in cases {
         let whole = joined(heap, before, text)?;
-        expect(rt, heap, &whole, printed).note(format_args!("at the end {}", text.escape_ascii()))?;
+        let got = run(heap, &whole)?;
+        assert!(rt;
+            got.as_slice() == *printed,
+            "{}; {}; {}; {}",
+            format_args!("the text {}", whole.escape_ascii()),
+            format_args!("prints {}", got.escape_ascii()),
+            format_args!("and not {}", printed.escape_ascii()),
+            format_args!("at the end {}", text.escape_ascii())
+        );
     }
     Ok(())
 }

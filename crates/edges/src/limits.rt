@@ -1,6 +1,7 @@
 // Limits: the bytes of a name, the names, and the bytes of a text.
 use crate::expect::*;
 use std::alloc::{AllocError, Global};
+use std::test::Fail;
 
 // Each `_` is a name of 24 bytes, and `_y` one of 25.
 const NAMES: [Case; 12] = [

@@ -1,5 +1,6 @@
 // Numbers, and words that are nearly numbers.
 use crate::expect::*;
+use std::test::Fail;
 
 // Each word as a value, and how it prints.
 const NUMBERS: [Case; 22] = [

@@ -1,5 +1,6 @@
 // Separators and comments, and words with nothing between them.
 use crate::expect::*;
+use std::test::Fail;
 
 // What may stand between any two words, and at both ends of a text.
 const FILLERS: [&[u8]; 12] = [

@@ -1,5 +1,6 @@
 // Words that no form takes, and symbols that look like them.
 use crate::expect::*;
+use std::test::Fail;
 
 // Each place of a form.
 const PLACES: [&[u8]; 17] = [

@@ -7,6 +7,7 @@ mod trouble;
 use console::run::run;
 use input::read_text;
 use std::io::Write;
+use std::process::ExitCode;
 use trouble::Trouble;
 
 fn session(rt: &HostRuntime) -> Result<(), Trouble> {
@@ -20,10 +21,12 @@ fn session(rt: &HostRuntime) -> Result<(), Trouble> {
     }
 }
 
-fn main(rt: HostRuntime) -> Result<(), Trouble> {
-    let ended = session(&rt);
-    if let Err(trouble) = &ended {
-        let _ = eprintln!(rt; "session: {trouble}");
+fn main(rt: HostRuntime) -> ExitCode {
+    match session(&rt) {
+        Ok(()) => ExitCode::SUCCESS,
+        Err(trouble) => {
+            let _ = eprintln!(rt; "session: {trouble}");
+            ExitCode::FAILURE
+        }
     }
-    ended
 }
