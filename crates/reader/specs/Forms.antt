@@ -1,5 +1,5 @@
 -- The forms of the language: the words that spell each, what is wrong with a word, and what a form means. Assumes nothing.
-use Rattle.std.specs.Prelude.{◌≡◌, ℕ, ◌+◌, Bool, false, cond, not, ◌||◌, List, [], ◌∷◌, ◌++◌, length, ℤ, is_some, Some, None, codes, Option, nat_le, slice_set}
+use Rattle.std.specs.Prelude.{◌≡◌, ℕ, Bool, false, cond, not, ◌||◌, List, [], ◌∷◌, ◌++◌, length, ℤ, is_some, Some, None, codes, Option, nat_le, slice_set}
 use Rattle.std.specs.Option.{unwrap_or}
 use Rattle.std.specs.Str.{bytes_eq}
 use Rattle.words.specs.Kinds.{Kind, open', close', hat, number, symbol}

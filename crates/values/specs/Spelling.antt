@@ -1,5 +1,5 @@
 -- The bytes of a name. Assumes nothing.
-use Rattle.std.specs.Prelude.{◌≡◌, ℕ, ◌<◌, Bool, ◌&&◌, List, [], length, take, ◌≢◌, nat_le, slice_index_or}
+use Rattle.std.specs.Prelude.{ℕ, ◌<◌, Bool, ◌&&◌, List, [], length, take, ◌≢◌, nat_le, slice_index_or}
 use Rattle.values.specs.declared.name.Name.{Name}
 
 -- the bytes of a name
