@@ -1,7 +1,7 @@
 -- What the calls of a memory do, as relations between the memory before, the answer and the memory after; and that the
 -- functions of the model say exactly these. Assumes nothing.
 use Rattle.std.specs.Prelude.{◌≡◌, ℕ, ◌+◌, ◌<◌, ◌≤◌, ◌↔◌, List, [], ◌∷◌, ◌++◌, length, Some, None, Ok, Err, Option, Result, ◌≢◌}
-use Rattle.std.specs.List.{AllByRecursion as All}
+use Rattle.std.specs.List.{AllByRecursion}
 use Rattle.values.specs.declared.element.Element.{Element}
 use Rattle.facts.specs.declared.fact.Fact.{Fact}
 use Rattle.facts.specs.declared.refusal.MemoryRefusal.{MemoryRefusal}
@@ -10,7 +10,7 @@ use Rattle.facts.specs.Model.{Model, fact, highest_tag, tag_at, find_tag, answer
 
 -- no pair has the time tag
 abbrev pub Lacks : List Fact → ℕ → Type 0
-Lacks fs t = All (λ f. f.tag ≢ t) fs
+Lacks fs t = AllByRecursion (λ f. f.tag ≢ t) fs
 
 -- the place is the first that has the time tag
 pub record FirstAt (fs : List Fact) (t p : ℕ) : Type 0 where
