@@ -1,1 +1,5 @@
 pub mod Declared
+pub mod Entered
+pub mod Marked
+pub mod Sums
+pub mod Unnegated

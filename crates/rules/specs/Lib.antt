@@ -1,3 +1,10 @@
 pub mod Attributes
 pub mod Bases
 pub mod Declarations
+pub mod Rules
+pub mod Ruled
+pub mod Carried
+pub mod Fitness
+pub mod Sizes
+pub mod Specificity
+pub mod Marks

@@ -1,83 +1,57 @@
-// The states of a rule base: classes are declared, then productions are entered (no call does that yet), then it is
-// sealed. Each move uses up the state before it and cannot refuse, so a class cannot be declared late, and nothing can be
-// entered into a sealed base.
-ghost use Rattle.std.specs.Prelude.{◌≡◌, [], IfOk};
-ghost use Rattle.rules.specs.Attributes.{declared};
-ghost use Rattle.rules.specs.Declarations.{classes_of, answer_declare, after_declare};
-ghost use Rattle.rules.specs.Bases.{declaring_classes, entering_classes, sealed_classes};
+// The states of a rule base: classes are declared, then rules are entered, then it is sealed. Each move uses up the state
+// before it and cannot refuse, so a class cannot be declared late, and nothing can be entered into a sealed base.
+ghost use Rattle.std.specs.Prelude.{◌≡◌, ◌≤◌, false, [], vec_len, vec_capacity};
+ghost use Rattle.rules.specs.Ruled.{rules_of};
+ghost use Rattle.rules.specs.Sizes.{size_meant, size_of_all, excessive};
 
-use crate::class::{Class, ClassRefusal};
 use crate::classes::Classes;
-use std::alloc::{AllocError, Global};
+use crate::rule::Rule;
+use crate::size::Size;
 
-// Classes are being declared.
+// How many rules a base may have.
+pub const MOST_RULES: usize = 64;
+
+// Classes are being declared. The places of the rules are reserved once.
 #[derive(Drop)]
 pub struct Declaring {
     classes: Classes,
+    rules: Vec<Rule>,
+    ghost reserved: { 64 ≤ vec_capacity rules },
+    ghost none: { rules.items ≡ [] },
 }
 
-// The classes stand, and productions are being entered.
+// The classes stand, and rules are being entered. The size is that of all of them.
 #[derive(Drop)]
 pub struct Entering {
     classes: Classes,
+    rules: Vec<Rule>,
+    size: Size,
+    ghost reserved: { 64 ≤ vec_capacity rules },
+    ghost few: { vec_len rules ≤ 64 },
+    ghost tests: { size.tests ≡ (size_of_all (rules_of rules.items)).tests },
+    ghost constants: { size.constants ≡ (size_of_all (rules_of rules.items)).constants },
+    ghost settings: { size.settings ≡ (size_of_all (rules_of rules.items)).settings },
+    ghost roomy: { excessive (size_meant size) ≡ false },
 }
 
 // The base stands.
 #[derive(Drop)]
 pub struct Sealed {
     classes: Classes,
+    rules: Vec<Rule>,
+    ghost few: { vec_len rules ≤ 64 },
+    ghost roomy: { excessive (size_of_all (rules_of rules.items)) ≡ false },
 }
 
-impl Declaring {
-    // A new base.
-    pub fn new(heap: Global) -> Result<Declaring, AllocError>
-        ensures { IfOk result (λ b. declaring_classes b ≡ []) }
-    {
-        let classes = Classes::new(heap)?;
-        Ok(Declaring { classes })
-    }
-
-    // The classes that are declared so far.
-    pub fn classes(&self) -> &Classes
-        ensures { classes_of result.now ≡ declaring_classes self.now }
-    {
-        &self.classes
-    }
-
-    // One class more.
-    pub fn declare(&mut self, class: Class) -> Result<(), ClassRefusal>
-        ensures answer { result ≡ answer_declare (declaring_classes self.old) (declared class) }
-        ensures after { declaring_classes self.new ≡ after_declare (declaring_classes self.old) (declared class) }
-    {
-        self.classes.declare(class)
-    }
-
-    // No class is declared from here on.
-    pub fn enter(self) -> Entering
-        ensures { entering_classes result ≡ declaring_classes self }
-    {
-        Entering {
-            classes: self.classes,
-        }
-    }
+// Why a rule is not entered.
+#[derive(Clone, Copy, PartialEq, Eq, Debug)]
+pub enum RuleRefusal {
+    // Another rule has its name.
+    Twice,
+    // With it there would be more rules, tests, constants of choices or settings than there may be.
+    TooMany,
 }
 
-impl Entering {
-    // No production is entered from here on.
-    pub fn seal(self) -> Sealed
-        ensures { sealed_classes result ≡ entering_classes self }
-    {
-        Sealed {
-            classes: self.classes,
-        }
-    }
-}
-
-impl Sealed {
-    // The declared classes.
-    pub fn classes(&self) -> &Classes
-        ensures { classes_of result.now ≡ sealed_classes self.now }
-    {
-        &self.classes
-    }
-}
+mod declare;
+mod enter;
+mod read;

@@ -1,6 +1,13 @@
-// The rule base: declared classes, and the three states that a base goes through.
+// The rule base: declared classes, rules, and the three states that a base goes through.
 #![tactic(auto)]
 
+pub mod action;
 pub mod base;
 pub mod class;
 pub mod classes;
+pub mod condition;
+pub mod conditions;
+pub mod place;
+pub mod rule;
+pub mod size;
+pub mod specificity;

@@ -1,5 +1,8 @@
 // The words of the rule language. A word that has bytes of its own borrows them from the text.
 
+ghost use Rattle.std.specs.Prelude.{◌≡◌};
+ghost use Rattle.words.specs.Kinds.{predicate};
+
 #[derive(Clone, Copy)]
 pub enum Predicate {
     Equal,
@@ -9,6 +12,23 @@ pub enum Predicate {
     Greater,
     AtLeast,
     SameKind,
+}
+
+impl Predicate {
+    // The bytes that spell it.
+    pub fn bytes(self) -> &'static [u8]
+        ensures { result.now ≡ predicate self }
+    {
+        match self {
+            Predicate::Equal => b"=",
+            Predicate::Unequal => b"<>",
+            Predicate::Less => b"<",
+            Predicate::AtMost => b"<=",
+            Predicate::Greater => b">",
+            Predicate::AtLeast => b">=",
+            Predicate::SameKind => b"<=>",
+        }
+    }
 }
 
 #[derive(Clone, Copy)]

@@ -30,6 +30,6 @@ returns c =
       (
         q,
         commands-whole (length (text_of d.words)) (length text) (sealed_classes c.seal-base.result) (declaring_classes d.base) (held d.names) (rest d.words) (plain_model n.result) (model [] 0 256) q (vec_items c.new-out.result) (vec_items c.command_all.new.out)
-            (ap length c.declare_all.ensures.text ∙ end) c.new-out.ensures.items (c.seal-base.ensures ∙ c.enter.ensures) same c.in_ok-command_all.ensures,
+            (ap length c.declare_all.ensures.text ∙ end) c.new-out.ensures.items (c.seal-base.ensures.classes ∙ c.enter.ensures.classes) same c.in_ok-command_all.ensures,
       ),
     )

@@ -1,0 +1,224 @@
+-- Reading word by word: steps, and which words a state takes. Assumes nothing.
+use Rattle.std.specs.Prelude.{ℕ, List, [], ◌∷◌, ℤ, Some, None, Option}
+use Rattle.words.specs.Kinds.{Kind, open', close', hat, minus, arrow, open_choice, close_choice, test, number, variable, symbol, illegal}
+use Rattle.words.specs.Words.{Lexeme}
+use Rattle.words.specs.declared.token.Predicate.{Predicate}
+use Rattle.languages.specs.declared.refusal.Cause.{Cause}
+use Rattle.languages.specs.declared.refusal.Cause.TheVariants.{IllegalWord, UnexpectedWord}
+use Rattle.languages.specs.Refusals.{Fault, cause_of}
+use Rattle.languages.specs.Senses.{sense}
+
+-- what a word does: it leads on to a state, it ends the form, or it is refused
+pub data Step (S E : Type 0) : Type 0 where
+  onward : S → Step S E
+  whole : E → Step S E
+  fails : Cause → Step S E
+
+-- refused where something is wrong
+abbrev pub unless : {S E : Type 0} → Option Fault → Step S E → Step S E
+unless None s = s
+unless (Some f) s = fails (cause_of f)
+
+-- ---- a state says what it takes, kind by kind, and then refuses the rest
+
+-- a word that no text may have, and a word that cannot continue the form
+abbrev pub refuse : {S E : Type 0} → Kind → Step S E
+refuse open' = fails UnexpectedWord
+refuse close' = fails UnexpectedWord
+refuse hat = fails UnexpectedWord
+refuse minus = fails UnexpectedWord
+refuse arrow = fails UnexpectedWord
+refuse open_choice = fails UnexpectedWord
+refuse close_choice = fails UnexpectedWord
+refuse (test p) = fails UnexpectedWord
+refuse (number n w) = fails UnexpectedWord
+refuse (variable w) = fails UnexpectedWord
+refuse (symbol w) = fails UnexpectedWord
+refuse (illegal w) = fails IllegalWord
+
+-- `(`, or else another word
+abbrev pub on_open : {S E : Type 0} → Step S E → (Kind → Step S E) → Kind → Step S E
+on_open x f open' = x
+on_open x f close' = f close'
+on_open x f hat = f hat
+on_open x f minus = f minus
+on_open x f arrow = f arrow
+on_open x f open_choice = f open_choice
+on_open x f close_choice = f close_choice
+on_open x f (test p) = f (test p)
+on_open x f (number n w) = f (number n w)
+on_open x f (variable w) = f (variable w)
+on_open x f (symbol w) = f (symbol w)
+on_open x f (illegal w) = f (illegal w)
+
+-- `)`, or else another word
+abbrev pub on_close : {S E : Type 0} → Step S E → (Kind → Step S E) → Kind → Step S E
+on_close x f open' = f open'
+on_close x f close' = x
+on_close x f hat = f hat
+on_close x f minus = f minus
+on_close x f arrow = f arrow
+on_close x f open_choice = f open_choice
+on_close x f close_choice = f close_choice
+on_close x f (test p) = f (test p)
+on_close x f (number n w) = f (number n w)
+on_close x f (variable w) = f (variable w)
+on_close x f (symbol w) = f (symbol w)
+on_close x f (illegal w) = f (illegal w)
+
+-- `^`, or else another word
+abbrev pub on_hat : {S E : Type 0} → Step S E → (Kind → Step S E) → Kind → Step S E
+on_hat x f open' = f open'
+on_hat x f close' = f close'
+on_hat x f hat = x
+on_hat x f minus = f minus
+on_hat x f arrow = f arrow
+on_hat x f open_choice = f open_choice
+on_hat x f close_choice = f close_choice
+on_hat x f (test p) = f (test p)
+on_hat x f (number n w) = f (number n w)
+on_hat x f (variable w) = f (variable w)
+on_hat x f (symbol w) = f (symbol w)
+on_hat x f (illegal w) = f (illegal w)
+
+-- `-`, or else another word
+abbrev pub on_minus : {S E : Type 0} → Step S E → (Kind → Step S E) → Kind → Step S E
+on_minus x f open' = f open'
+on_minus x f close' = f close'
+on_minus x f hat = f hat
+on_minus x f minus = x
+on_minus x f arrow = f arrow
+on_minus x f open_choice = f open_choice
+on_minus x f close_choice = f close_choice
+on_minus x f (test p) = f (test p)
+on_minus x f (number n w) = f (number n w)
+on_minus x f (variable w) = f (variable w)
+on_minus x f (symbol w) = f (symbol w)
+on_minus x f (illegal w) = f (illegal w)
+
+-- `-->`, or else another word
+abbrev pub on_arrow : {S E : Type 0} → Step S E → (Kind → Step S E) → Kind → Step S E
+on_arrow x f open' = f open'
+on_arrow x f close' = f close'
+on_arrow x f hat = f hat
+on_arrow x f minus = f minus
+on_arrow x f arrow = x
+on_arrow x f open_choice = f open_choice
+on_arrow x f close_choice = f close_choice
+on_arrow x f (test p) = f (test p)
+on_arrow x f (number n w) = f (number n w)
+on_arrow x f (variable w) = f (variable w)
+on_arrow x f (symbol w) = f (symbol w)
+on_arrow x f (illegal w) = f (illegal w)
+
+-- `<<`, or else another word
+abbrev pub on_open_choice : {S E : Type 0} → Step S E → (Kind → Step S E) → Kind → Step S E
+on_open_choice x f open' = f open'
+on_open_choice x f close' = f close'
+on_open_choice x f hat = f hat
+on_open_choice x f minus = f minus
+on_open_choice x f arrow = f arrow
+on_open_choice x f open_choice = x
+on_open_choice x f close_choice = f close_choice
+on_open_choice x f (test p) = f (test p)
+on_open_choice x f (number n w) = f (number n w)
+on_open_choice x f (variable w) = f (variable w)
+on_open_choice x f (symbol w) = f (symbol w)
+on_open_choice x f (illegal w) = f (illegal w)
+
+-- `>>`, or else another word
+abbrev pub on_close_choice : {S E : Type 0} → Step S E → (Kind → Step S E) → Kind → Step S E
+on_close_choice x f open' = f open'
+on_close_choice x f close' = f close'
+on_close_choice x f hat = f hat
+on_close_choice x f minus = f minus
+on_close_choice x f arrow = f arrow
+on_close_choice x f open_choice = f open_choice
+on_close_choice x f close_choice = x
+on_close_choice x f (test p) = f (test p)
+on_close_choice x f (number n w) = f (number n w)
+on_close_choice x f (variable w) = f (variable w)
+on_close_choice x f (symbol w) = f (symbol w)
+on_close_choice x f (illegal w) = f (illegal w)
+
+-- a predicate, or else another word
+abbrev pub on_test : {S E : Type 0} → (Predicate → Step S E) → (Kind → Step S E) → Kind → Step S E
+on_test x f open' = f open'
+on_test x f close' = f close'
+on_test x f hat = f hat
+on_test x f minus = f minus
+on_test x f arrow = f arrow
+on_test x f open_choice = f open_choice
+on_test x f close_choice = f close_choice
+on_test x f (test p) = x p
+on_test x f (number n w) = f (number n w)
+on_test x f (variable w) = f (variable w)
+on_test x f (symbol w) = f (symbol w)
+on_test x f (illegal w) = f (illegal w)
+
+-- a number, or else another word
+abbrev pub on_number : {S E : Type 0} → (ℤ → Step S E) → (Kind → Step S E) → Kind → Step S E
+on_number x f open' = f open'
+on_number x f close' = f close'
+on_number x f hat = f hat
+on_number x f minus = f minus
+on_number x f arrow = f arrow
+on_number x f open_choice = f open_choice
+on_number x f close_choice = f close_choice
+on_number x f (test p) = f (test p)
+on_number x f (number n w) = x n
+on_number x f (variable w) = f (variable w)
+on_number x f (symbol w) = f (symbol w)
+on_number x f (illegal w) = f (illegal w)
+
+-- a variable, or else another word
+abbrev pub on_variable : {S E : Type 0} → (List ℕ → Step S E) → (Kind → Step S E) → Kind → Step S E
+on_variable x f open' = f open'
+on_variable x f close' = f close'
+on_variable x f hat = f hat
+on_variable x f minus = f minus
+on_variable x f arrow = f arrow
+on_variable x f open_choice = f open_choice
+on_variable x f close_choice = f close_choice
+on_variable x f (test p) = f (test p)
+on_variable x f (number n w) = f (number n w)
+on_variable x f (variable w) = x w
+on_variable x f (symbol w) = f (symbol w)
+on_variable x f (illegal w) = f (illegal w)
+
+-- a symbol, or else another word
+abbrev pub on_symbol : {S E : Type 0} → (List ℕ → Step S E) → (Kind → Step S E) → Kind → Step S E
+on_symbol x f open' = f open'
+on_symbol x f close' = f close'
+on_symbol x f hat = f hat
+on_symbol x f minus = f minus
+on_symbol x f arrow = f arrow
+on_symbol x f open_choice = f open_choice
+on_symbol x f close_choice = f close_choice
+on_symbol x f (test p) = f (test p)
+on_symbol x f (number n w) = f (number n w)
+on_symbol x f (variable w) = f (variable w)
+on_symbol x f (symbol w) = x w
+on_symbol x f (illegal w) = f (illegal w)
+
+-- ---- reading word after word
+
+-- how a form's reading ends: it was taken, with the words left, or it stopped, before the words left
+pub data Outcome (E : Type 0) : Type 0 where
+  taken : E → List Lexeme → Outcome E
+  stopped : Cause → List Lexeme → Outcome E
+
+-- by what a step is
+abbrev pub on_step : {S E X : Type 0} → Step S E → (S → X) → (E → X) → (Cause → X) → X
+on_step (onward s) f g h = f s
+on_step (whole e) f g h = g e
+on_step (fails c) f g h = h c
+
+abbrev pub run : {S E : Type 0} → (S → Kind → Step S E) → S → List Lexeme → Outcome E
+run turned s [] = stopped UnexpectedWord []
+run turned s (l ∷ ls) = on_step (turned s (sense l.kind)) (λ t. run turned t ls) (λ e. taken e ls) (λ c. stopped c (l ∷ ls))
+
+-- the first byte of the words, or the end of the text where there is none
+abbrev pub place_of : ℕ → List Lexeme → ℕ
+place_of end [] = end
+place_of end (l ∷ ls) = l.place

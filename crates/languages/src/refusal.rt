@@ -1,0 +1,45 @@
+// Why a form is refused, and where.
+ghost use Rattle.std.specs.Prelude.{◌≡◌};
+ghost use Rattle.languages.specs.Refusals.{cause_number};
+
+// Why a form is refused.
+#[derive(Clone, Copy, PartialEq, Eq, Debug)]
+pub enum Cause {
+    // A byte or a plain word that no text may have outside comments.
+    IllegalWord,
+    // A word that cannot continue a form, or the end of the text.
+    UnexpectedWord,
+    // A class that is undeclared or lacks the attribute, or a class, an attribute of one class or a production named twice.
+    WrongName,
+    // A variable first met under a predicate other than `=`, first met in a negated condition and again in a later one, or
+    // in an action and in no unnegated condition.
+    WrongVariable,
+    // A number that names no unnegated condition.
+    NoSuchCondition,
+    // More than a limit allows.
+    OverLimit,
+}
+
+// A reader's refusal: why, and where: the first byte of the first broken word, the text's length where the text ends too
+// early, or byte 32,768 of a text that is too long.
+#[derive(Clone, Copy, Debug)]
+pub struct Refusal {
+    pub cause: Cause,
+    pub place: usize,
+}
+
+impl Cause {
+    // The number that a refusal is known by.
+    pub fn number(self) -> u8
+        ensures { result ≡ cause_number self }
+    {
+        match self {
+            Cause::IllegalWord => 1,
+            Cause::UnexpectedWord => 2,
+            Cause::WrongName => 3,
+            Cause::WrongVariable => 4,
+            Cause::NoSuchCondition => 5,
+            Cause::OverLimit => 6,
+        }
+    }
+}

@@ -1,0 +1,12 @@
+pub mod Rests
+pub mod Meeting
+pub mod Carrying
+pub mod Bound
+pub mod Fit
+pub mod Drafting
+pub mod Answering
+pub mod Saying
+pub mod Growing
+pub mod Owing
+pub mod Occurring
+pub mod Keeping

@@ -1,0 +1,16 @@
+use Rattle.std.proofs.Common.{vec_items, ap, ◌∙◌}
+use Rattle.rules.specs.Rules.{conditions_of, action_of}
+use Rattle.rules.specs.Sizes.{size_meant}
+use Rattle.languages.specs.Machines.{onward}
+use Rattle.productions.specs.Sofar.{action_with}
+use Rattle.productions.specs.Machine.{at_actions}
+use Rattle.productions.specs.Meaning.{variables_of, acting_of, settings_of}
+use Rattle.productions.proofs.Drafting.{pushed_meaning}
+use Rattle.productions.proofs.actions.close_action.Goals as goal
+
+pub returns : goal.returns
+returns c ns =
+    let d = c.args.draft.now in
+    ap (λ l. onward (at_actions (record { names = ns; name = d.name; conditions = conditions_of (vec_items d.conditions); variables = variables_of d.variables; actions = l; used = size_meant d.used })))
+    (pushed_meaning action_of c.push.result (vec_items d.actions) (vec_items c.push.new.self) _ (action_with (acting_of d.acting) (settings_of (vec_items d.settings))) c.if-is_err.ensures.value c.push.ensures.items
+    (c.action_with-action.ensures ∙ ap (λ t. action_with (acting_of d.acting) (settings_of (vec_items t))) c.replace-settings.ensures.value))

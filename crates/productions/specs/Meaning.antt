@@ -1,0 +1,102 @@
+-- What the values of the reader of productions mean. Assumes nothing.
+use Rattle.std.specs.Prelude.{◌≡◌, ℕ, Bool, List, map, Some, None, Ok, Err, vec_items, Result}
+use Rattle.values.specs.Spelling.{spelling}
+use Rattle.rules.specs.declared.place.Place.{Place}
+use Rattle.languages.specs.declared.refusal.Cause.{Cause}
+use Rattle.languages.specs.Refusals.{Fault, cause_of}
+use Rattle.rules.specs.Attributes.{declared}
+use Rattle.rules.specs.Rules.{Condition, Setting as SettingMeant, setting_of, field_tests_of, conditions_of, actions_of}
+use Rattle.rules.specs.Sizes.{size_meant}
+use Rattle.rules.specs.declared.action.Setting.{Setting as RustSetting}
+use Rattle.languages.specs.Machines.{onward, whole, fails}
+use Rattle.productions.specs.declared.draft.Acting.{Acting as RustActing}
+use Rattle.productions.specs.declared.draft.Acting.TheVariants.{Make, Modify}
+use Rattle.productions.specs.declared.draft.Draft.{Draft}
+use Rattle.productions.specs.declared.state.State.{State as RustState}
+use Rattle.productions.specs.declared.state.State.TheVariants.{Opening, Head, Name, First, Conditions, Negated, Class, Pairs, Attribute, Test, Operand, Choice, Choices, Actions, Action, Make as StateMake, Modify as StateModify, Remove, Closing, Settings, Setting, Value}
+use Rattle.productions.specs.declared.state.Step.{Step as Turn}
+use Rattle.productions.specs.declared.state.Step.TheVariants.{Onward, Whole, Fails, Starved}
+use Rattle.productions.specs.declared.variables.Variable.{Variable}
+use Rattle.productions.specs.declared.variables.Variables.{Variables}
+use Rattle.productions.specs.Sofar.{Met, Sofar, rule_read, first_met, met_fault_among, unbound_among, number_among, met_too, Acting, on_make, on_modify}
+use Rattle.productions.specs.Machine.{State, at_opening, at_head, at_name, at_first, at_conditions, at_negated, at_class, at_pairs, at_attribute, at_test, at_choice, at_operand, at_choices, at_actions, at_action, at_make, at_modify, at_remove, at_closing, at_settings, at_setting, at_value, Move}
+
+-- the variables that were met
+abbrev pub met_of : Variable → Met
+met_of v = record { word = spelling v.name; negated = v.negated; condition = v.condition }
+
+abbrev pub variables_of : Variables → List Met
+variables_of v = map met_of (vec_items v.list)
+
+abbrev pub number_of_place : Place → ℕ
+number_of_place p = p.number
+
+-- what meeting a variable in the condition n answers, and the variables after it
+abbrev pub Meets : List Met → List ℕ → Bool → Bool → ℕ → Result Place Cause → List Met → Type 0
+Meets vs w binds negated n (Ok p) us = (met_fault_among vs n binds w (first_met vs w) ≡ None) × (p.number ≡ number_among vs w) × (us ≡ met_too vs negated n w)
+Meets vs w binds negated n (Err c) us = (f : Fault) × (met_fault_among vs n binds w (first_met vs w) ≡ Some f) × (c ≡ cause_of f)
+
+-- what looking a variable up for an action answers
+abbrev pub Gives : List Met → List ℕ → Result Place Cause → Type 0
+Gives vs w (Ok p) = (unbound_among vs (first_met vs w) ≡ None) × (p.number ≡ number_among vs w)
+Gives vs w (Err c) = (f : Fault) × (unbound_among vs (first_met vs w) ≡ Some f) × (c ≡ cause_of f)
+
+-- ---- a draft
+
+abbrev pub acting_of : RustActing → Acting
+acting_of (Make c) = on_make (declared c)
+acting_of (Modify k c) = on_modify k (declared c)
+
+abbrev pub settings_of : List RustSetting → List SettingMeant
+settings_of ss = map setting_of ss
+
+-- what was read whole, where the names are ns
+abbrev pub sofar_of : List (List ℕ) → Draft → Sofar
+sofar_of ns d =
+    record {
+      names = ns;
+      name = d.name;
+      conditions = conditions_of (vec_items d.conditions);
+      variables = variables_of d.variables;
+      actions = actions_of (vec_items d.actions);
+      used = size_meant d.used;
+    }
+
+-- the condition that is being read
+abbrev pub condition_now : Draft → Condition
+condition_now d = record { negated = d.negated; class = declared d.class; tests = field_tests_of (vec_items d.tests) }
+
+-- ---- states and steps
+
+-- a state of the code, where the names are ns, as a state of the reading
+abbrev pub state_of : List (List ℕ) → Draft → RustState → State
+state_of ns d Opening = at_opening ns
+state_of ns d Head = at_head ns
+state_of ns d Name = at_name ns
+state_of ns d First = at_first (sofar_of ns d)
+state_of ns d Conditions = at_conditions (sofar_of ns d)
+state_of ns d Negated = at_negated (sofar_of ns d)
+state_of ns d (Class b) = at_class (sofar_of ns d) b
+state_of ns d Pairs = at_pairs (sofar_of ns d) (condition_now d)
+state_of ns d Attribute = at_attribute (sofar_of ns d) (condition_now d)
+state_of ns d (Test f) = at_test (sofar_of ns d) (condition_now d) f.number
+state_of ns d (Operand f p) = at_operand (sofar_of ns d) (condition_now d) f.number p
+state_of ns d (Choice f) = at_choice (sofar_of ns d) (condition_now d) f.number
+state_of ns d (Choices f) = at_choices (sofar_of ns d) (condition_now d) f.number (vec_items d.choice)
+state_of ns d Actions = at_actions (sofar_of ns d)
+state_of ns d Action = at_action (sofar_of ns d)
+state_of ns d StateMake = at_make (sofar_of ns d)
+state_of ns d StateModify = at_modify (sofar_of ns d)
+state_of ns d Remove = at_remove (sofar_of ns d)
+state_of ns d Closing = at_closing (sofar_of ns d)
+state_of ns d Settings = at_settings (sofar_of ns d) (acting_of d.acting) (settings_of (vec_items d.settings))
+state_of ns d Setting = at_setting (sofar_of ns d) (acting_of d.acting) (settings_of (vec_items d.settings))
+state_of ns d (Value f) = at_value (sofar_of ns d) (acting_of d.acting) (settings_of (vec_items d.settings)) f.number
+
+-- a turn of the code is a step of the reading, where the names and the draft are then these; memory runs out only at a word that
+-- leads on
+abbrev pub Steps : Turn → List (List ℕ) → Draft → Move → Type 0
+Steps (Onward s) ns d t = onward (state_of ns d s) ≡ t
+Steps Whole ns d t = whole (rule_read (sofar_of ns d), ns) ≡ t
+Steps (Fails c) ns d t = fails c ≡ t
+Steps Starved ns d t = (s : State) × (onward s ≡ t)

@@ -1,0 +1,61 @@
+// What may come next in a production.
+use languages::refusal::Cause;
+use rules::place::Place;
+use words::token::Predicate;
+
+#[derive(Clone, Copy)]
+pub(crate) enum State {
+    // `(`
+    Opening,
+    // `p`
+    Head,
+    // the production's name
+    Name,
+    // `(` of the first condition
+    First,
+    // `(` or `-` of another condition, or `-->`
+    Conditions,
+    // `(` after `-`
+    Negated,
+    // the class of a condition, which is negated or not
+    Class(bool),
+    // `^` of another test, or `)`
+    Pairs,
+    // the attribute of a test
+    Attribute,
+    // a test of this field
+    Test(Place),
+    // what the field is compared with
+    Operand(Place, Predicate),
+    // the first constant of a choice
+    Choice(Place),
+    // another constant, or `>>`
+    Choices(Place),
+    // `(` of another action, or `)`
+    Actions,
+    // the head of an action
+    Action,
+    // the class of an element to make
+    Make,
+    // the condition whose element is modified
+    Modify,
+    // the condition whose element is removed
+    Remove,
+    // `)` of an action
+    Closing,
+    // `^` of another setting, or `)`
+    Settings,
+    // the attribute of a setting
+    Setting,
+    // the value that this field gets
+    Value(Place),
+}
+
+// What a word does: it leads on, it ends the production, it is refused, or memory ran out.
+#[derive(Clone, Copy)]
+pub(crate) enum Step {
+    Onward(State),
+    Whole,
+    Fails(Cause),
+    Starved,
+}

@@ -1,0 +1,115 @@
+// How much of the limits of a base rules use.
+ghost use Rattle.std.specs.Prelude.{◌≡◌, ◌+◌, ◌^◌, ◌<◌};
+ghost use Rattle.rules.specs.Rules.{test_of, field_tests_of, conditions_of, action_of, actions_of};
+ghost use Rattle.rules.specs.Sizes.{size_meant, together, excessive, tests_in, test_constants, tests_constants, constants_in, action_settings, settings_in};
+
+use crate::action::Action;
+use crate::condition::{Condition, FieldTest, Test};
+
+// How many tests, constants of choices and settings the rules of a base may have.
+pub const MOST_TESTS: usize = 512;
+
+pub const MOST_CONSTANTS: usize = 256;
+
+pub const MOST_SETTINGS: usize = 256;
+
+// How many tests, constants of choices and settings there are.
+#[derive(Clone, Copy)]
+pub struct Size {
+    pub tests: usize,
+    pub constants: usize,
+    pub settings: usize,
+}
+
+impl Size {
+    // The two together.
+    pub(crate) fn together(self, other: Size) -> Size
+        requires tests { self.tests + other.tests < 2 ^ 64 }
+        requires constants { self.constants + other.constants < 2 ^ 64 }
+        requires settings { self.settings + other.settings < 2 ^ 64 }
+        ensures { size_meant result ≡ together (size_meant self) (size_meant other) }
+    {
+        Size {
+            tests: self.tests + other.tests,
+            constants: self.constants + other.constants,
+            settings: self.settings + other.settings,
+        }
+    }
+
+    // Whether it is more than a base may have.
+    pub(crate) fn is_excessive(self) -> bool
+        ensures { result ≡ excessive (size_meant self) }
+    {
+        self.tests > MOST_TESTS || self.constants > MOST_CONSTANTS || self.settings > MOST_SETTINGS
+    }
+}
+
+// The tests of conditions; the class counts as one.
+pub(crate) fn tests_in(conditions: &[Condition]) -> usize
+    requires { tests_in (conditions_of conditions.now) < 2 ^ 64 }
+    ensures { result ≡ tests_in (conditions_of conditions.now) }
+{
+    let mut sum = 0;
+    for condition in conditions {
+        sum += 1 + condition.tests.len();
+    }
+    sum
+}
+
+// The constants of a choice; another test has none.
+fn test_constants(test: &Test) -> usize
+    ensures { result ≡ test_constants (test_of test.now) }
+{
+    match test {
+        Test::Choice(constants) => constants.len(),
+        _ => 0,
+    }
+}
+
+// The constants of the choices among tests.
+fn tests_constants(tests: &[FieldTest]) -> usize
+    requires { tests_constants (field_tests_of tests.now) < 2 ^ 64 }
+    ensures { result ≡ tests_constants (field_tests_of tests.now) }
+{
+    let mut sum = 0;
+    for test in tests {
+        sum += test_constants(&test.test);
+    }
+    sum
+}
+
+// The constants of the choices in conditions.
+pub(crate) fn constants_in(conditions: &[Condition]) -> usize
+    requires { constants_in (conditions_of conditions.now) < 2 ^ 64 }
+    ensures { result ≡ constants_in (conditions_of conditions.now) }
+{
+    let mut sum = 0;
+    for condition in conditions {
+        sum += tests_constants(&condition.tests);
+    }
+    sum
+}
+
+// The settings of an action.
+fn action_settings(action: &Action) -> usize
+    ensures { result ≡ action_settings (action_of action.now) }
+{
+    match action {
+        Action::Make(_, settings) => settings.len(),
+        Action::Modify(_, settings) => settings.len(),
+        Action::Remove(_) => 0,
+        Action::Halt => 0,
+    }
+}
+
+// The settings of actions.
+pub(crate) fn settings_in(actions: &[Action]) -> usize
+    requires { settings_in (actions_of actions.now) < 2 ^ 64 }
+    ensures { result ≡ settings_in (actions_of actions.now) }
+{
+    let mut sum = 0;
+    for action in actions {
+        sum += action_settings(action);
+    }
+    sum
+}
