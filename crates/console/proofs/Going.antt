@@ -2,26 +2,23 @@
 use Rattle.std.proofs.Common.{◌≡◌, ℕ, ◌<◌, Bool, true, List, [], ◌∷◌, ◌++◌, length, Some, Ok, Err, codes, Option, Result, sym, refl, ap, ◌∙◌, subst, append_assoc}
 use Rattle.std.proofs.lemmas.List.{append-nil}
 use Rattle.words.specs.Words.{Lexeme, words_of}
-use Rattle.facts.specs.Model.{Model, model}
+use Rattle.facts.specs.Model.{Model}
 use Rattle.rules.specs.Attributes.{Declared}
-use Rattle.rules.specs.Rules.{Rule}
 use Rattle.reader.specs.declared.form.Command.{Command}
-use Rattle.languages.specs.declared.refusal.Refusal.{Refusal}
+use Rattle.reader.specs.declared.refusal.Refusal.{Refusal}
 use Rattle.reader.specs.declared.form.Phase.TheVariants.{Declaring, Commanding}
 use Rattle.reader.specs.Forms.{declares, commands}
 use Rattle.reader.specs.Meaning.{act_of}
 use Rattle.reader.specs.Reading.{ReadsCommand}
-use Rattle.reader.specs.Machine.{opening}
-use Rattle.reader.proofs.Rests.{fewer}
-use Rattle.productions.proofs.Rests.{fewer as fewer-words}
+use Rattle.reader.proofs.Answering.{takes_fewer}
 use Rattle.console.specs.Printed.{Appends}
 use Rattle.console.specs.Performed.{after_command, Prints}
-use Rattle.console.specs.Sessions.{Reached, reached, Reading, Leads, Entered, entered, Producing, ProducesAll, Produces, DeclaresAll, start, Given, given, ReadsAll, after_all, PrintsAll, Ends, Left, left, Commands}
+use Rattle.console.specs.Sessions.{Reached, reached, Reading, Leads, DeclaresAll, start, Given, given, ReadsAll, after_all, PrintsAll, Ends, Left, left, Commands}
 
--- one form more
-pub leads_more : {P X : Type 0} (Reads : P → Result Bool X → P → Type 0) (p : P) (steps : List P) (q r : P) → Leads Reads p steps q → Reads q (Ok true) r → Leads Reads p (steps ++ r ∷ []) r
-leads_more Reads p [] q r h g = (subst (λ x. Reads x (Ok true) r) (sym h) g, refl)
-leads_more Reads p (s ∷ steps) q r h g = (h.0, leads_more Reads s steps q r h.1 g)
+-- one declaration more
+pub leads_more : (end : ℕ) (p : Reached) (steps : List Reached) (q r : Reached) → Leads end p steps q → Reading end q (Ok true) r → Leads end p (steps ++ r ∷ []) r
+leads_more end p [] q r h g = (subst (λ x. Reading end x (Ok true) r) (sym h) g, refl)
+leads_more end p (s ∷ steps) q r h g = (h.0, leads_more end s steps q r h.1 g)
 
 -- commands went before: they were read from the text, printed what was printed since, and left the memory as it is now
 pub record Went (end : ℕ) (classes : List Declared) (ns : List (List ℕ)) (ls : List Lexeme) (before : Model) (start : List ℕ) (ms : List (List ℕ)) (after : List Lexeme) (m : Model) (out : List ℕ) : Type 0 where
@@ -69,32 +66,19 @@ module _ (end : ℕ) (classes : List Declared) (ns : List (List ℕ)) (ls : List
   went_all ks rest out' tail e ends =
       (w.printed ++ tail, e ∙ ap (λ x. x ++ tail) w.written ∙ append_assoc start w.printed tail, (w.commands, w.printed, tail, ms, after, refl, w.read, w.prints, ends, w.memory))
 
--- commands on a memory, of which some is known
-pub commands-of : (e : ℕ) (classes : List Declared) (ns : List (List ℕ)) (ls : List Lexeme) (m m' : Model) (q : Left) (begun out : List ℕ) → m ≡ m' → Appends begun out (Commands e classes (left ns ls m) q) → Appends begun out (λ bytes. (l : Left) × Commands e classes (left ns ls m') l bytes)
-commands-of e classes ns ls m m' q begun out is a = (a.0, a.1, (q, subst (λ x. Commands e classes (left ns ls x) q a.0) is a.2))
-
--- what follows the productions, once they are read
-pub produced : (e f : ℕ) (classes cs ds : List Declared) (p q : Entered) (begun out : List ℕ) → e ≡ f → classes ≡ ds → ds ≡ cs → ProducesAll f cs p (Ok tt) q → Appends begun out (λ bytes. (l : Left) × Commands e classes (left q.names q.left (model [] 0 256)) l bytes) → Appends begun out (Produces f cs p)
-produced e f classes cs ds p q begun out same c d all a =
-    let g = subst (λ x. Commands f x (left q.names q.left (model [] 0 256)) a.2.0 a.0) (c ∙ d) (subst (λ x. Commands x classes (left q.names q.left (model [] 0 256)) a.2.0 a.0) same a.2.1) in
-    (a.0, a.1, (Ok tt, q, all, (a.2.0, g)))
-
--- productions that begin with nothing printed
-pub produces_whole : (e f : ℕ) (classes cs : List Declared) (rs : List Rule) (ns : List (List ℕ)) (ls : List Lexeme) (begun out : List ℕ) → e ≡ f → begun ≡ [] → classes ≡ cs → rs ≡ [] → Appends begun out (Produces e classes (entered rs ns ls)) → Produces f cs (entered [] ns ls) out
-produces_whole e f classes cs rs ns ls begun out same none c new a =
-    subst (λ x. Produces x cs (entered [] ns ls) out) same
-    (subst (λ x. Produces e x (entered [] ns ls) out) c
-    (subst (λ x. Produces e classes (entered x ns ls) out) new
-    (subst (Produces e classes (entered rs ns ls)) (sym (a.1 ∙ ap (λ x. x ++ a.0) none)) a.2)))
+-- commands that begin with nothing printed
+pub commands-whole : (e f : ℕ) (classes cs : List Declared) (ns : List (List ℕ)) (ls : List Lexeme) (m m' : Model) (q : Left) (begun out : List ℕ) → e ≡ f → begun ≡ [] → classes ≡ cs → m ≡ m' → Appends begun out (Commands e classes (left ns ls m) q) → Commands f cs (left ns ls m') q out
+commands-whole e f classes cs ns ls m m' q begun out same none c is a =
+    subst (λ x. Commands x cs (left ns ls m') q out) same
+    (subst (λ x. Commands e x (left ns ls m') q out) c
+    (subst (λ x. Commands e classes (left ns ls x) q out) is
+    (subst (Commands e classes (left ns ls m) q) (sym (a.1 ∙ ap (λ x. x ++ a.0) none)) a.2)))
 
 -- ---- what a call answered, of the whole text
 
 module _ (e f : ℕ) (same : e ≡ f) where
   pub read_more : (p q : Reached) (b : Bool) → b ≡ true → Reading e p (Ok b) q → Reading f p (Ok true) q
   read_more p q b t r = subst (λ x. Reading f p (Ok x) q) t (subst (λ x. Reading x p (Ok b) q) same r)
-
-  pub produce_more : (classes cs : List Declared) → classes ≡ cs → (p q : Entered) (b : Bool) → b ≡ true → Producing e classes p (Ok b) q → Producing f cs p (Ok true) q
-  produce_more classes cs c p q b t r = subst (λ x. Producing f cs p (Ok x) q) t (subst (λ x. Producing x cs p (Ok b) q) same (subst (λ x. Producing e x p (Ok b) q) c r))
 
   pub commanded : (classes : List Declared) (ns ms : List (List ℕ)) (ls after : List Lexeme) (o p : Option Command) → o ≡ p → ReadsCommand e classes ns ls (Ok o) ms after → ReadsCommand f classes ns ls (Ok p) ms after
   commanded classes ns ms ls after o p t r = subst (λ x. ReadsCommand f classes ns ls (Ok x) ms after) t (subst (λ x. ReadsCommand x classes ns ls (Ok o) ms after) same r)
@@ -104,13 +88,10 @@ module _ (e f : ℕ) (same : e ≡ f) where
 
 -- each form leaves fewer words
 pub fewer_left : (end : ℕ) (p q : Reached) → Reading end p (Ok true) q → length q.left < length p.left
-fewer_left end p q r = fewer p.classes (opening Declaring p.names) p.left (declares r.2.0, q.names) q.left r.2.1
-
-pub fewer_produced : (end : ℕ) (classes : List Declared) (p q : Entered) → Producing end classes p (Ok true) q → length q.left < length p.left
-fewer_produced end classes p q r = fewer-words classes p.rules p.names p.left (r.2.0, q.names) q.left r.2.1
+fewer_left end p q r = takes_fewer Declaring p.classes p.names q.names p.left q.left (declares r.2.0) r.2.1
 
 pub fewer_commands : (end : ℕ) (classes : List Declared) (ns ms : List (List ℕ)) (ls after : List Lexeme) (c : Command) → ReadsCommand end classes ns ls (Ok (Some c)) ms after → length after < length ls
-fewer_commands end classes ns ms ls after c r = fewer classes (opening Commanding ns) ls (commands (act_of c), ms) after r.1
+fewer_commands end classes ns ms ls after c r = takes_fewer Commanding classes ns ms ls after (commands (act_of c)) r.1
 
 -- ---- the whole session
 

@@ -11,8 +11,8 @@ use Rattle.console.specs.Printed.{field_text, fields_text, class_symbol}
 use Rattle.console.specs.Listings.{headings_of}
 
 -- one field more is written
-pub field-more : (names : List (List ℕ)) (attributes : List ℕ) (values : List Value) (i a : ℕ) (v : Value) (before after whole : List ℕ) → i < length attributes → a ≡ get_or attributes i 0 → v ≡ get_or values (i + 1) nil → after ≡ before ++ field_text names a v → before ++ fields_text names (i + 1) (drop i attributes) values ≡ whole → after ++ fields_text names (i + 1 + 1) (drop (i + 1) attributes) values ≡ whole
-field-more names attributes values i a v before after whole lt at is wrote inv =
+pub field_more : (names : List (List ℕ)) (attributes : List ℕ) (values : List Value) (i a : ℕ) (v : Value) (before after whole : List ℕ) → i < length attributes → a ≡ get_or attributes i 0 → v ≡ get_or values (i + 1) nil → after ≡ before ++ field_text names a v → before ++ fields_text names (i + 1) (drop i attributes) values ≡ whole → after ++ fields_text names (i + 1 + 1) (drop (i + 1) attributes) values ≡ whole
+field_more names attributes values i a v before after whole lt at is wrote inv =
     rw (wrote, at, is, append_assoc) (sym (at_drop_more (λ as'. before ++ fields_text names (i + 1) as' values) attributes i 0 lt) ∙ inv)
 
 -- no field is left

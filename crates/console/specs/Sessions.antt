@@ -4,12 +4,8 @@ use Rattle.words.specs.Words.{Lexeme, words_of}
 use Rattle.facts.specs.Model.{Model, model}
 use Rattle.rules.specs.Attributes.{Declared}
 use Rattle.reader.specs.declared.form.Command.{Command}
-use Rattle.languages.specs.declared.refusal.Refusal.{Refusal}
-use Rattle.rules.specs.Rules.{Rule}
+use Rattle.reader.specs.declared.refusal.Refusal.{Refusal}
 use Rattle.reader.specs.Reading.{ReadsDeclaration, ReadsCommand}
-use Rattle.productions.specs.declared.trouble.Trouble.{Trouble}
-use Rattle.productions.specs.declared.trouble.Trouble.TheVariants.{Refused, NoMemory}
-use Rattle.productions.specs.Reading.{ReadsProduction}
 use Rattle.console.specs.Printed.{reader_refused}
 use Rattle.console.specs.Performed.{after_command, Prints}
 
@@ -30,45 +26,19 @@ abbrev pub Reading : ℕ → Reached → Result Bool Refusal → Reached → Typ
 Reading end p answer q =
     ReadsDeclaration end p.classes p.names p.left answer q.classes q.names q.left
 
--- forms read one after the other lead from the first point to the last, where `Reads p answer q` says what reading one answers
--- at the point p, and the point q that it leads to
-abbrev pub Leads : {P X : Type 0} → (P → Result Bool X → P → Type 0) → P → List P → P → Type 0
-Leads Reads p [] q = p ≡ q
-Leads Reads p (s ∷ steps) q = Reads p (Ok true) s × Leads Reads s steps q
+-- declarations read one after the other lead from the first point to the last
+abbrev pub Leads : ℕ → Reached → List Reached → Reached → Type 0
+Leads end p [] q = p ≡ q
+Leads end p (s ∷ steps) q = Reading end p (Ok true) s × Leads end s steps q
 
--- the answer of the last call: no form of this phase is left, or it fails
-abbrev pub last_answer : {X : Type 0} → Result (Unit {0}) X → Result Bool X
+-- the answer of the last call: no declaration is left, or a refusal
+abbrev pub last_answer : Result (Unit {0}) Refusal → Result Bool Refusal
 last_answer (Ok _) = Ok false
-last_answer (Err x) = Err x
+last_answer (Err refusal) = Err refusal
 
--- all forms of a phase are read, from one point to another
-abbrev pub ReadsPhase : {P X : Type 0} → (P → Result Bool X → P → Type 0) → P → Result (Unit {0}) X → P → Type 0
-ReadsPhase {P} Reads p answer q = (steps : List P) × (last : P) × Leads Reads p steps last × Reads last (last_answer answer) q
-
--- all declarations
+-- all declarations are read, from one point to another
 abbrev pub DeclaresAll : ℕ → Reached → Result (Unit {0}) Refusal → Reached → Type 0
-DeclaresAll end p answer q = ReadsPhase (Reading end) p answer q
-
--- ---- productions
-
--- how far a text was read after its declarations: the rules and the names so far, and the words that are left
-pub record Entered : Type 0 where
-  pub rules : List Rule
-  pub names : List (List ℕ)
-  pub left : List Lexeme
-
--- the same from its parts
-abbrev pub entered : List Rule → List (List ℕ) → List Lexeme → Entered
-entered rules names left = record { rules = rules; names = names; left = left }
-
--- what reading a production of a text of `end` bytes answers at one point, and the point that it leads to
-abbrev pub Producing : ℕ → List Declared → Entered → Result Bool Trouble → Entered → Type 0
-Producing end classes p answer q =
-    ReadsProduction end classes p.rules p.names p.left answer q.rules q.names q.left
-
--- all productions
-abbrev pub ProducesAll : ℕ → List Declared → Entered → Result (Unit {0}) Trouble → Entered → Type 0
-ProducesAll end classes p answer q = ReadsPhase (Producing end classes) p answer q
+DeclaresAll end p answer q = (steps : List Reached) × (last : Reached) × Leads end p steps last × Reading end last (last_answer answer) q
 
 -- ---- commands
 
@@ -130,21 +100,9 @@ Commands end classes p q bytes =
 abbrev pub start : List ℕ → Reached
 start text = reached [] (codes "nil" ∷ []) (words_of text)
 
--- what follows the productions: the commands, on an empty memory of 256 places that has given no tag; or the refusal. Where
--- memory ran out there is no session
-abbrev pub FollowsProductions : ℕ → List Declared → Result (Unit {0}) Trouble → Entered → List ℕ → Type 0
-FollowsProductions end classes (Ok _) p bytes = (q : Left) × Commands end classes (left p.names p.left (model [] 0 256)) q bytes
-FollowsProductions end classes (Err (Refused refusal)) p bytes = bytes ≡ reader_refused refusal
-FollowsProductions end classes (Err NoMemory) p bytes = ⊥
-
--- the productions from a point on, and what follows them
-abbrev pub Produces : ℕ → List Declared → Entered → List ℕ → Type 0
-Produces end classes p bytes =
-    (answer : Result (Unit {0}) Trouble) × (q : Entered) × ProducesAll end classes p answer q × FollowsProductions end classes answer q bytes
-
--- what follows the declarations: the productions, with no rule entered yet; or the refusal
+-- what follows the declarations: the commands, on an empty memory of 256 places that has given no tag; or the refusal
 abbrev pub Follows : ℕ → Result (Unit {0}) Refusal → Reached → List ℕ → Type 0
-Follows end (Ok _) p bytes = Produces end p.classes (entered [] p.names p.left) bytes
+Follows end (Ok _) p bytes = (q : Left) × Commands end p.classes (left p.names p.left (model [] 0 256)) q bytes
 Follows end (Err refusal) p bytes = bytes ≡ reader_refused refusal
 
 -- the bytes are what the session of a text prints

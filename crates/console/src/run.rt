@@ -1,23 +1,21 @@
 // A session from the bytes of its text to the bytes that it prints.
-ghost use Rattle.std.specs.Prelude.{◌≡◌, [], length, IfOk, OnOk};
+ghost use Rattle.std.specs.Prelude.{◌≡◌, length, IfOk, OnOk};
 ghost use Rattle.words.specs.Words.{rest, text_of};
 ghost use Rattle.values.specs.Elements.{fields_of, blank};
 ghost use Rattle.values.specs.Naming.{held};
-ghost use Rattle.facts.specs.Model.{meant, model};
-ghost use Rattle.rules.specs.Bases.{declaring_classes, entering_classes, entering_rules, sealed_classes};
+ghost use Rattle.facts.specs.Model.{meant};
+ghost use Rattle.rules.specs.Bases.{declaring_classes, sealed_classes};
 ghost use Rattle.console.specs.Printed.{Appends};
-ghost use Rattle.console.specs.Sessions.{reached, DeclaresAll, entered, ProducesAll, Produces, Left, left, Commands, Session};
+ghost use Rattle.console.specs.Sessions.{reached, DeclaresAll, left, Commands, Session};
 
 use crate::commands::perform;
 use crate::lines::write_reader_refusal;
 use facts::fact::Fact;
 use facts::plain::PlainMemory;
 use facts::traits::{MOST_ELEMENTS, Memory};
-use languages::refusal::Refusal;
-use productions::read::read_production;
-use productions::trouble::Trouble;
 use reader::read::{read_command, read_declaration};
-use rules::base::{Declaring, Entering, Sealed};
+use reader::refusal::Refusal;
+use rules::base::{Declaring, Sealed};
 use std::alloc::{AllocError, Global};
 use values::element::Element;
 use values::names::Names;
@@ -66,54 +64,6 @@ fn empty_place() -> Fact
     }
 }
 
-// Reads every production.
-fn produce_all(
-    heap: Global,
-    words: &mut Words,
-    names: &mut Names,
-    base: &mut Entering,
-) -> Result<(), Trouble>
-    ensures all { ProducesAll (length (text_of words.old)) (entering_classes base.old) (entered (entering_rules base.old) (held names.old) (rest words.old)) result (entered (entering_rules base.new) (held names.new) (rest words.new)) }
-    ensures classes { entering_classes base.new ≡ entering_classes base.old }
-    ensures text { text_of words.new ≡ text_of words.old }
-{
-    while read_production(words, names, base, heap)? {}
-    Ok(())
-}
-
-// Reads and performs the commands on an empty memory.
-fn command_from_empty(
-    heap: Global,
-    out: &mut Vec<u8>,
-    words: &mut Words,
-    names: &mut Names,
-    base: &Sealed,
-) -> Result<(), AllocError>
-    ensures { OnOk result (Appends out.old.items out.new.items (λ bytes. (q : Left) × Commands (length (text_of words.old)) (sealed_classes base.now) (left (held names.old) (rest words.old) (model [] 0 256)) q bytes)) }
-{
-    let mut places = vec![in heap; empty_place(); MOST_ELEMENTS]?;
-    let mut memory = PlainMemory::new(&mut places, 0);
-    command_all(heap, out, words, names, base, &mut memory)
-}
-
-// What follows the declarations.
-fn produce_and_command(
-    heap: Global,
-    out: &mut Vec<u8>,
-    words: &mut Words,
-    names: &mut Names,
-    base: Entering,
-) -> Result<(), AllocError>
-    ensures { OnOk result (Appends out.old.items out.new.items (Produces (length (text_of words.old)) (entering_classes base) (entered (entering_rules base) (held names.old) (rest words.old)))) }
-{
-    let mut base = base;
-    match produce_all(heap, words, names, &mut base) {
-        Ok(()) => command_from_empty(heap, out, words, names, &base.seal()),
-        Err(Trouble::Refused(refusal)) => write_reader_refusal(heap, out, refusal),
-        Err(Trouble::NoMemory) => Err(AllocError),
-    }
-}
-
 // What the text prints.
 pub fn run(heap: Global, text: &[u8]) -> Result<Vec<u8>, AllocError>
     ensures { IfOk result (λ out. Session text.now out.items) }
@@ -126,6 +76,9 @@ pub fn run(heap: Global, text: &[u8]) -> Result<Vec<u8>, AllocError>
         write_reader_refusal(heap, &mut out, refusal)?;
         return Ok(out);
     }
-    produce_and_command(heap, &mut out, &mut words, &mut names, base.enter())?;
+    let base = base.enter().seal();
+    let mut places = vec![in heap; empty_place(); MOST_ELEMENTS]?;
+    let mut memory = PlainMemory::new(&mut places, 0);
+    command_all(heap, &mut out, &mut words, &mut names, &base, &mut memory)?;
     Ok(out)
 }

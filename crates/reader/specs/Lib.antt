@@ -1,3 +1,5 @@
+pub mod Refusals
+pub mod Senses
 pub mod Forms
 pub mod Machine
 pub mod Meaning

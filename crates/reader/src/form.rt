@@ -2,7 +2,7 @@
 use rules::class::Class;
 use values::element::Element;
 
-// Which forms are read: declarations, or commands. Productions stand between the two in a text, and have a reader of their own.
+// Which forms a text may have next: declarations come first, then commands.
 #[derive(Clone, Copy, PartialEq, Eq)]
 pub enum Phase {
     Declaring,

@@ -3,5 +3,6 @@
 
 pub mod form;
 pub mod read;
+pub mod refusal;
 mod state;
 mod turns;

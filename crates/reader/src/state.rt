@@ -1,6 +1,6 @@
 // What the reader of a form has read, and so what may come next.
-use crate::form::{Command, Phase, Taken};
-use languages::refusal::Cause;
+use crate::form::{Command, Taken};
+use crate::refusal::Cause;
 use rules::class::Class;
 use values::element::Element;
 
@@ -15,9 +15,9 @@ pub(crate) struct Filling {
 #[derive(Clone, Copy)]
 pub(crate) enum State {
     // `(`
-    Opening(Phase),
-    // the word that says which form of the phase it is
-    Head(Phase),
+    Opening,
+    // the word that says which form it is
+    Head,
     // the class of a declaration
     ClassName,
     // an attribute of the class, or `)`

@@ -2,20 +2,18 @@
 ghost use Rattle.std.specs.Prelude.{◌≡◌, ℕ, List, slice_set};
 ghost use Rattle.words.specs.Kinds.{kind_of};
 ghost use Rattle.values.specs.Elements.{fields_of};
-ghost use Rattle.values.specs.Naming.{held};
+ghost use Rattle.values.specs.Naming.{held, number_of};
 ghost use Rattle.rules.specs.Attributes.{declared};
 ghost use Rattle.rules.specs.Declarations.{classes_of};
-ghost use Rattle.reader.specs.Forms.{declares, commands, makes, removes};
-ghost use Rattle.languages.specs.Refusals.{class_cause};
-ghost use Rattle.languages.specs.Senses.{sense};
-ghost use Rattle.reader.specs.Machine.{head, pairs, attribute, closing, head_word, class_word, attribute_word, element_word, field_word, number_word, symbol_word, every_word, turned};
-ghost use Rattle.languages.specs.Machines.{onward, whole, refuse, on_open, on_close, on_hat, on_number, on_symbol};
-ghost use Rattle.reader.specs.Meaning.{state_of, act_of, Steps};
-ghost use Rattle.languages.specs.Naming.{Grows};
+ghost use Rattle.reader.specs.Forms.{class_at, field_at};
+ghost use Rattle.reader.specs.Refusals.{class_cause};
+ghost use Rattle.reader.specs.Senses.{sense};
+ghost use Rattle.reader.specs.Machine.{onward, pairs, opened, head_word, headed, class_word, classed, attribute_word, attributed, element_of, element_classed, paired, field_found, field_named, valued, tagged, closed, turned};
+ghost use Rattle.reader.specs.Meaning.{state_of, act_of, Steps, Grows};
 
 use crate::form::{Command, Phase, Taken};
+use crate::refusal::Cause;
 use crate::state::{Filling, State, Step};
-use languages::refusal::Cause;
 use rules::class::{Class, ClassRefusal};
 use rules::classes::{Classes, MOST_CLASSES};
 use values::bytes::is;
@@ -25,11 +23,11 @@ use values::value::Value;
 use words::token::Token;
 
 // The first word of a form: `(`.
-fn at_opening(phase: Phase, token: &Token) -> Step
-    ensures { (ns : List (List ℕ)) → Steps result ns (on_open (onward (head phase ns)) refuse (sense (kind_of token.now))) }
+fn at_opening(token: &Token) -> Step
+    ensures { (ns : List (List ℕ)) → Steps result ns (opened ns (sense (kind_of token.now))) }
 {
     match token {
-        Token::Open => Step::Onward(State::Head(phase)),
+        Token::Open => Step::Onward(State::Head),
         Token::Illegal(_) => Step::Fails(Cause::IllegalWord),
         _ => Step::Fails(Cause::UnexpectedWord),
     }
@@ -37,7 +35,7 @@ fn at_opening(phase: Phase, token: &Token) -> Step
 
 // The word that says which form it is.
 fn at_head(phase: Phase, token: &Token) -> Step
-    ensures { (ns : List (List ℕ)) → Steps result ns (on_symbol (head_word phase ns) refuse (sense (kind_of token.now))) }
+    ensures { (ns : List (List ℕ)) → Steps result ns (headed phase ns (sense (kind_of token.now))) }
 {
     match token {
         Token::Symbol(word) => head_word(phase, word),
@@ -83,7 +81,7 @@ fn class_cause(refusal: ClassRefusal) -> Cause
 
 // The class of a declaration.
 fn at_class_name(token: &Token, names: &mut Names, classes: &Classes) -> Step
-    ensures step { Steps result (held names.new) (on_symbol (class_word (classes_of classes.now) (held names.old)) refuse (sense (kind_of token.now))) }
+    ensures step { Steps result (held names.new) (classed (classes_of classes.now) (held names.old) (sense (kind_of token.now))) }
     ensures names { Grows (held names.old) (held names.new) }
 {
     match token {
@@ -112,7 +110,7 @@ fn class_name(word: &[u8], names: &mut Names, classes: &Classes) -> Step
 
 // An attribute of a declaration, or its end.
 fn at_attributes(class: Class, token: &Token, names: &mut Names) -> Step
-    ensures step { Steps result (held names.new) (on_close (whole (declares (declared class), held names.old)) (on_symbol (attribute_word (held names.old) (declared class)) refuse) (sense (kind_of token.now))) }
+    ensures step { Steps result (held names.new) (attributed (declared class) (held names.old) (sense (kind_of token.now))) }
     ensures names { Grows (held names.old) (held names.new) }
 {
     match token {
@@ -125,7 +123,7 @@ fn at_attributes(class: Class, token: &Token, names: &mut Names) -> Step
 
 // An attribute gets a name, and must be new in its class.
 fn one_attribute(class: Class, word: &[u8], names: &mut Names) -> Step
-    ensures step { Steps result (held names.new) (attribute_word (held names.old) (declared class) word.now) }
+    ensures step { Steps result (held names.new) (attribute_word (declared class) (held names.old) word.now) }
     ensures names { Grows (held names.old) (held names.new) }
 {
     let mut class = class;
@@ -140,7 +138,7 @@ fn one_attribute(class: Class, word: &[u8], names: &mut Names) -> Step
 
 // The class of an element to make.
 fn at_element_class(token: &Token, names: &Names, classes: &Classes) -> Step
-    ensures { Steps result (held names.now) (on_symbol (element_word (classes_of classes.now) (held names.now)) refuse (sense (kind_of token.now))) }
+    ensures { Steps result (held names.now) (element_classed (classes_of classes.now) (held names.now) (sense (kind_of token.now))) }
 {
     match token {
         Token::Symbol(word) => element_class(word, names, classes),
@@ -151,7 +149,7 @@ fn at_element_class(token: &Token, names: &Names, classes: &Classes) -> Step
 
 // The same, where it is a symbol: it is only looked up.
 fn element_class(word: &[u8], names: &Names, classes: &Classes) -> Step
-    ensures { Steps result (held names.now) (element_word (classes_of classes.now) (held names.now) word.now) }
+    ensures { Steps result (held names.now) (element_of (held names.now) (class_at (classes_of classes.now) (number_of (held names.now) word.now))) }
 {
     let Some(number) = names.find(word) else {
         return Step::Fails(Cause::WrongName);
@@ -167,7 +165,7 @@ fn element_class(word: &[u8], names: &Names, classes: &Classes) -> Step
 
 // `^`, or the end of a make.
 fn at_pairs(filling: Filling, token: &Token) -> Step
-    ensures { (ns : List (List ℕ)) → Steps result ns (on_hat (onward (attribute ns (declared filling.class) (fields_of filling.element))) (on_close (whole (commands (makes (fields_of filling.element)), ns)) refuse) (sense (kind_of token.now))) }
+    ensures { (ns : List (List ℕ)) → Steps result ns (paired (declared filling.class) (fields_of filling.element) ns (sense (kind_of token.now))) }
 {
     match token {
         Token::Hat => Step::Onward(State::Attribute(filling)),
@@ -179,7 +177,7 @@ fn at_pairs(filling: Filling, token: &Token) -> Step
 
 // An attribute of an element to make.
 fn at_attribute(filling: Filling, token: &Token, names: &Names) -> Step
-    ensures { Steps result (held names.now) (on_symbol (field_word (held names.now) (declared filling.class) (fields_of filling.element)) refuse (sense (kind_of token.now))) }
+    ensures { Steps result (held names.now) (field_named (declared filling.class) (fields_of filling.element) (held names.now) (sense (kind_of token.now))) }
 {
     match token {
         Token::Symbol(word) => field_name(filling, word, names),
@@ -190,7 +188,7 @@ fn at_attribute(filling: Filling, token: &Token, names: &Names) -> Step
 
 // The same, where it is a symbol: it is only looked up.
 fn field_name(filling: Filling, word: &[u8], names: &Names) -> Step
-    ensures { Steps result (held names.now) (field_word (held names.now) (declared filling.class) (fields_of filling.element) word.now) }
+    ensures { Steps result (held names.now) (field_found (declared filling.class) (fields_of filling.element) (held names.now) (field_at (declared filling.class) (number_of (held names.now) word.now))) }
 {
     let Some(number) = names.find(word) else {
         return Step::Fails(Cause::WrongName);
@@ -203,7 +201,7 @@ fn field_name(filling: Filling, word: &[u8], names: &Names) -> Step
 
 // The element with one field more set.
 fn with_value(filling: Filling, field: usize, value: Value) -> Step
-    ensures { (ns : List (List ℕ)) → Steps result ns (onward (pairs ns (declared filling.class) (slice_set (fields_of filling.element) field value))) }
+    ensures { (ns : List (List ℕ)) → Steps result ns (onward (pairs (declared filling.class) (slice_set (fields_of filling.element) field value)) ns) }
 {
     let mut element = filling.element;
     element.set(field, value);
@@ -215,7 +213,7 @@ fn with_value(filling: Filling, field: usize, value: Value) -> Step
 
 // The value of a field: a number, or a symbol, which gets a name.
 fn at_field_value(filling: Filling, field: usize, token: &Token, names: &mut Names) -> Step
-    ensures step { Steps result (held names.new) (on_number (number_word (held names.old) (declared filling.class) (fields_of filling.element) field) (on_symbol (symbol_word (held names.old) (declared filling.class) (fields_of filling.element) field) refuse) (sense (kind_of token.now))) }
+    ensures step { Steps result (held names.new) (valued (declared filling.class) (fields_of filling.element) field (held names.old) (sense (kind_of token.now))) }
     ensures names { Grows (held names.old) (held names.new) }
 {
     match token {
@@ -231,7 +229,7 @@ fn at_field_value(filling: Filling, field: usize, token: &Token, names: &mut Nam
 
 // A time tag, or `*` for all.
 fn at_tag(token: &Token) -> Step
-    ensures { (ns : List (List ℕ)) → Steps result ns (on_number (λ n. onward (closing ns (removes n))) (on_symbol (every_word ns) refuse) (sense (kind_of token.now))) }
+    ensures { (ns : List (List ℕ)) → Steps result ns (tagged ns (sense (kind_of token.now))) }
 {
     match token {
         Token::Number(n, _) => Step::Onward(State::Closing(Command::Remove(*n))),
@@ -249,7 +247,7 @@ fn at_tag(token: &Token) -> Step
 
 // The end of a command.
 fn at_closing(command: Command, token: &Token) -> Step
-    ensures { (ns : List (List ℕ)) → Steps result ns (on_close (whole (commands (act_of command), ns)) refuse (sense (kind_of token.now))) }
+    ensures { (ns : List (List ℕ)) → Steps result ns (closed (act_of command) ns (sense (kind_of token.now))) }
 {
     match token {
         Token::Close => Step::Whole(Taken::Commanded(command)),
@@ -259,13 +257,19 @@ fn at_closing(command: Command, token: &Token) -> Step
 }
 
 // What a word does in a state.
-pub(crate) fn turn(state: State, token: &Token, names: &mut Names, classes: &Classes) -> Step
-    ensures step { Steps result (held names.new) (turned (classes_of classes.now) (state_of (held names.old) state) (sense (kind_of token.now))) }
+pub(crate) fn turn(
+    state: State,
+    phase: Phase,
+    token: &Token,
+    names: &mut Names,
+    classes: &Classes,
+) -> Step
+    ensures step { Steps result (held names.new) (turned phase (classes_of classes.now) (held names.old) (state_of state) (sense (kind_of token.now))) }
     ensures names { Grows (held names.old) (held names.new) }
 {
     match state {
-        State::Opening(phase) => at_opening(phase, token),
-        State::Head(phase) => at_head(phase, token),
+        State::Opening => at_opening(token),
+        State::Head => at_head(phase, token),
         State::ClassName => at_class_name(token, names, classes),
         State::Attributes(class) => at_attributes(class, token, names),
         State::ElementClass => at_element_class(token, names, classes),

@@ -2,7 +2,7 @@ use Rattle.std.proofs.Common.{[], ◌∷◌, ◌++◌, length, ap, ◌∙◌}
 use Rattle.words.specs.Words.{rest, text_of}
 use Rattle.values.specs.Naming.{held}
 use Rattle.rules.specs.Bases.{declaring_classes}
-use Rattle.console.specs.Sessions.{reached, Reading}
+use Rattle.console.specs.Sessions.{reached}
 use Rattle.console.proofs.Going.{leads_more, read_more, fewer_left}
 use Rattle.console.proofs.run.declare_all.Goals as goal
 
@@ -19,6 +19,6 @@ loop-preserved c =
     let start = reached (declaring_classes c.args.base.now) (held c.args.names.now) (rest c.args.words.now) in
     let p = reached (declaring_classes c.loop.base) (held c.loop.names) (rest c.loop.words) in
     let q = reached (declaring_classes c.read_declaration.new.base) (held c.read_declaration.new.names) (rest c.read_declaration.new.words) in (
-      (c.loop.invariant.0.0 ++ q ∷ [], leads_more (Reading end) start c.loop.invariant.0.0 p q c.loop.invariant.0.1 (read_more (length (text_of c.loop.words)) end (ap length c.loop.invariant.1) p q c.in_ok-read_declaration.field-0 c.if-branch.true c.in_ok-read_declaration.ensures.reads)),
+      (c.loop.invariant.0.0 ++ q ∷ [], leads_more end start c.loop.invariant.0.0 p q c.loop.invariant.0.1 (read_more (length (text_of c.loop.words)) end (ap length c.loop.invariant.1) p q c.in_ok-read_declaration.field-0 c.if-branch.true c.in_ok-read_declaration.ensures.reads)),
       c.in_ok-read_declaration.ensures.text ∙ c.loop.invariant.1,
     )

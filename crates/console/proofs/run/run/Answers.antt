@@ -1,15 +1,17 @@
-use Rattle.std.proofs.Common.{length, Ok, vec_items, ap, ◌∙◌}
+use Rattle.std.proofs.Common.{◌≡◌, [], length, Ok, vec_items, ap, ◌∙◌, arith}
 use Rattle.std.proofs.lemmas.Result.{err_from_is_err_and}
 use Rattle.words.specs.Words.{rest, text_of}
 use Rattle.values.specs.Naming.{held}
-use Rattle.rules.specs.Bases.{declaring_classes, entering_classes, entering_rules}
-use Rattle.console.specs.Sessions.{reached}
-use Rattle.console.proofs.Going.{from_start, produces_whole}
+use Rattle.facts.specs.Model.{model}
+use Rattle.facts.specs.Plain.{plain_model, plain_room}
+use Rattle.rules.specs.Bases.{declaring_classes, sealed_classes}
+use Rattle.console.specs.Sessions.{reached, left}
+use Rattle.console.proofs.Going.{from_start, commands-whole}
 use Rattle.console.proofs.run.run.Goals as goal
 
-pub returns-in_err-produce_and_command : goal.returns-in_err-produce_and_command
-returns-in_err-produce_and_command c =
-    let p = err_from_is_err_and c.from_residual-in_err-produce_and_command.result c.from_residual-in_err-produce_and_command.ensures.1 in
+pub returns-in_err-command_all : goal.returns-in_err-command_all
+returns-in_err-command_all c =
+    let p = err_from_is_err_and c.from_residual-in_err-command_all.result c.from_residual-in_err-command_all.ensures.1 in
     rw p.1 tt
 
 pub returns : goal.returns
@@ -17,11 +19,17 @@ returns c =
     let text = c.args.text.now in
     let w = c.new-words.result in
     let d = c.declare_all.new in
-    let end = ap length c.new-words.ensures.text in
-    let p = reached (declaring_classes d.base) (held d.names) (rest d.words) in (
+    let n = c.new-memory in
+    let room : plain_room n.result ≡ 256 = omega (arith, n.ensures.room, c.deref_mut.ensures.len, c.in_ok-places.ensures.len) in
+    let same : plain_model n.result ≡ model [] 0 256 = λ i. model (n.ensures.facts i) (n.ensures.last i) (room i) in
+    let q = left (held c.command_all.new.names) (rest c.command_all.new.words) (plain_model c.command_all.new.memory) in
+    let end = ap length c.new-words.ensures.text in (
       Ok tt,
-      p,
-      from_start text (length (text_of w)) (declaring_classes c.in_ok-base.base) (held c.in_ok-names.names) (rest w) (Ok tt) p end c.in_ok-base.ensures c.in_ok-names.ensures c.new-words.ensures.words c.in_default.ensures.all,
-      produces_whole (length (text_of d.words)) (length text) (entering_classes c.enter.result) (declaring_classes d.base) (entering_rules c.enter.result) (held d.names) (rest d.words) (vec_items c.new-out.result) (vec_items c.produce_and_command.new.out)
-          (ap length c.declare_all.ensures.text ∙ end) c.new-out.ensures.items c.enter.ensures.classes c.enter.ensures.rules c.in_ok-produce_and_command.ensures,
+      reached (declaring_classes d.base) (held d.names) (rest d.words),
+      from_start text (length (text_of w)) (declaring_classes c.in_ok-base.base) (held c.in_ok-names.names) (rest w) (Ok tt) (reached (declaring_classes d.base) (held d.names) (rest d.words)) end c.in_ok-base.ensures c.in_ok-names.ensures c.new-words.ensures.words c.in_default.ensures.all,
+      (
+        q,
+        commands-whole (length (text_of d.words)) (length text) (sealed_classes c.seal-base.result) (declaring_classes d.base) (held d.names) (rest d.words) (plain_model n.result) (model [] 0 256) q (vec_items c.new-out.result) (vec_items c.command_all.new.out)
+            (ap length c.declare_all.ensures.text ∙ end) c.new-out.ensures.items (c.seal-base.ensures.classes ∙ c.enter.ensures.classes) same c.in_ok-command_all.ensures,
+      ),
     )

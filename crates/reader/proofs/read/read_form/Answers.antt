@@ -3,8 +3,7 @@ use Rattle.words.specs.Words.{rest, text_of}
 use Rattle.values.specs.Naming.{held}
 use Rattle.values.proofs.Lookups.{some_name}
 use Rattle.rules.specs.Declarations.{classes_of}
-use Rattle.reader.proofs.Answering.{took, refused}
-use Rattle.languages.proofs.Steps.{kept-names}
+use Rattle.reader.proofs.Answering.{took, refused, kept_names}
 use Rattle.reader.proofs.read.read_form.Goals as goal
 
 pub returns-in-Ok : goal.returns-in-Ok
@@ -20,7 +19,7 @@ returns-in-Err c =
     record {
       reads =
           refused c.args.phase (classes_of c.args.classes.now) (held names) (rest c.args.words.now) (length (text_of c.args.words.now)) c.in-Err.refusal (held c.keep.new.self) _ c.in-Err.ensures.ran
-          (kept-names (held names) (held c.read_words.new.names) (held c.keep.new.self) c.count-count.result (some_name names) c.count-count.ensures c.in-Err.ensures.names c.keep.ensures)
+          (kept_names (held names) (held c.read_words.new.names) (held c.keep.new.self) c.count-count.result (some_name names) c.count-count.ensures c.in-Err.ensures.names c.keep.ensures)
           refl;
       text = refl;
     }

@@ -5,9 +5,8 @@ use Rattle.words.specs.Kinds.{kind_of}
 use Rattle.values.specs.Elements.{fields_of}
 use Rattle.values.specs.Naming.{held}
 use Rattle.rules.specs.Attributes.{declared}
-use Rattle.languages.specs.Senses.{sense}
-use Rattle.reader.specs.Machine.{pairs, number_word, symbol_word}
-use Rattle.languages.specs.Machines.{onward, on_number, on_symbol, refuse}
+use Rattle.reader.specs.Senses.{sense}
+use Rattle.reader.specs.Machine.{onward, pairs, valued}
 use Rattle.reader.specs.Meaning.{Steps}
 use Rattle.reader.proofs.turns.at_field_value.Goals as goal
 
@@ -19,7 +18,7 @@ returns-in-Number c =
     let f : SFits w32 c.in-Number.n = search rules in
     record {
       step =
-          subst (λ t. Steps c.with_value.result ns (on_number (number_word ns class fields c.args.field) (on_symbol (symbol_word ns class fields c.args.field) refuse) (sense (kind_of t)))) (sym c.in-Number.is)
-          (subst (λ z. Steps c.with_value.result ns (onward (pairs ns class (set fields c.args.field (Number z))))) (to_z-of_z w32 c.in-Number.n f) (c.with_value.ensures ns));
+          subst (λ t. Steps c.with_value.result ns (valued class fields c.args.field ns (sense (kind_of t)))) (sym c.in-Number.is)
+          (subst (λ z. Steps c.with_value.result ns (onward (pairs class (set fields c.args.field (Number z))) ns)) (to_z-of_z w32 c.in-Number.n f) (c.with_value.ensures ns));
       names = search rules;
     }

@@ -1,7 +1,7 @@
 use Rattle.std.proofs.Common.{ap, ◌∙◌, rules}
 use Rattle.values.specs.Naming.{held}
 use Rattle.rules.specs.Attributes.{declared}
-use Rattle.languages.specs.Machines.{fails}
+use Rattle.reader.specs.Machine.{fails}
 use Rattle.reader.proofs.Turning.{not_added}
 use Rattle.reader.proofs.turns.one_attribute.Goals as goal
 
