@@ -1,5 +1,5 @@
 -- Symbols of a text, by the numbers that they have or get, and what can be wrong with one. Assumes nothing.
-use Rattle.std.specs.Prelude.{◌≡◌, ℕ, Bool, cond, not, ◌||◌, List, [], ◌++◌, length, ℤ, is_some, Some, None, Option, nat_le}
+use Rattle.std.specs.Prelude.{◌≡◌, ℕ, Bool, cond, not, List, [], ◌++◌, ℤ, is_some, Some, None, Option}
 use Rattle.std.specs.Option.{unwrap_or}
 use Rattle.words.specs.Kinds.{Kind, number, symbol}
 use Rattle.values.specs.declared.value.Value.{Value}
@@ -16,6 +16,10 @@ numbered ns w = unwrap_or (answer_intern ns w) 0
 -- a symbol that is no name yet and can become none: there is no room, or it is too long
 abbrev pub unnameable : List (List ℕ) → List ℕ → Bool
 unnameable ns w = not (is_some (answer_intern ns w))
+
+-- names are only added
+abbrev pub Grows : List (List ℕ) → List (List ℕ) → Type 0
+Grows ns ms = (added : List (List ℕ)) × (ms ≡ ns ++ added)
 
 -- the class whose symbol has the number
 abbrev pub class_at : List Declared → Option ℕ → Option Declared
@@ -57,21 +61,7 @@ abbrev pub after_value : List (List ℕ) → Constant → List (List ℕ)
 after_value ns (symbolic w) = after_intern ns w
 after_value ns (numeric n) = ns
 
--- ---- what is wrong with a word; the lower number first
-
--- the class of a declaration: a class has the number that its symbol has or gets; then one class too many, or no name can
--- be given
-abbrev pub class_fault : List Declared → List (List ℕ) → List ℕ → Option Fault
-class_fault cs ns w =
-    cond (is_some (class_at cs (answer_intern ns w))) (Some wrong_name)
-    (cond (nat_le 16 (length cs) || unnameable ns w) (Some over_limit) None)
-
--- an attribute of a declaration: the class has an attribute with the number that its symbol has or gets; then a sixteenth,
--- or no name can be given
-abbrev pub attribute_fault : Declared → List (List ℕ) → List ℕ → Option Fault
-attribute_fault c ns w =
-    cond (is_some (field_at c (answer_intern ns w))) (Some wrong_name)
-    (cond (nat_le 15 (length c.attributes) || unnameable ns w) (Some over_limit) None)
+-- ---- what is wrong with a word
 
 -- a class that has to be declared, and is not
 abbrev pub undeclared : List Declared → List (List ℕ) → List ℕ → Option Fault
@@ -85,7 +75,3 @@ lacking c ns w = cond (is_some (field_at c (number_of ns w))) None (Some wrong_n
 abbrev pub value_fault : List (List ℕ) → Constant → Option Fault
 value_fault ns (symbolic w) = cond (unnameable ns w) (Some over_limit) None
 value_fault ns (numeric n) = None
-
--- names are only added
-abbrev pub Grows : List (List ℕ) → List (List ℕ) → Type 0
-Grows ns ms = (added : List (List ℕ)) × (ms ≡ ns ++ added)

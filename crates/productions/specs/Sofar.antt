@@ -1,5 +1,5 @@
 -- What was read of a production so far, and what can be wrong with the next word. Assumes nothing.
-use Rattle.std.specs.Prelude.{ℕ, ◌+◌, Bool, true, false, cond, not, ◌&&◌, ◌||◌, List, [], ◌∷◌, ◌++◌, length, get_or, ℤ, pos, negsuc, is_some, Some, None, Option, ◌==◌, nat_le, slice_index_or}
+use Rattle.std.specs.Prelude.{ℕ, ◌+◌, Bool, true, false, cond, not, ◌&&◌, ◌||◌, List, [], ◌∷◌, ◌++◌, length, ℤ, pos, negsuc, is_some, Some, None, Option, ◌==◌, nat_le, slice_index_or}
 use Rattle.std.specs.Option.{unwrap_or}
 use Rattle.std.specs.Str.{bytes_eq}
 use Rattle.words.specs.Kinds.{Kind, variable}
@@ -144,7 +144,7 @@ variable_fault d binds w = met_fault_among d.variables (length d.conditions) bin
 
 -- what is wrong with a variable in an action, as it was found: no unnegated condition has it
 abbrev pub unbound_among : List Met → Option ℕ → Option Fault
-unbound_among vs (Some i) = cond (get_or vs i nobody).negated (Some wrong_variable) None
+unbound_among vs (Some i) = cond (slice_index_or vs i nobody).negated (Some wrong_variable) None
 unbound_among vs None = Some wrong_variable
 
 abbrev pub unbound_fault : Sofar → List ℕ → Option Fault

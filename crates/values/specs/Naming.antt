@@ -1,5 +1,5 @@
 -- What the names hold, and which number a word has among them. Assumes nothing.
-use Rattle.std.specs.Prelude.{◌≡◌, ℕ, ◌<◌, Bool, cond, ◌&&◌, List, [], ◌∷◌, ◌++◌, map, length, get_or, is_some, Some, None, vec_items, Option, ◌≢◌, nat_lt, slice_index_or}
+use Rattle.std.specs.Prelude.{◌≡◌, ℕ, ◌<◌, Bool, cond, ◌&&◌, List, [], ◌∷◌, ◌++◌, map, length, is_some, Some, None, vec_items, Option, ◌≢◌, nat_lt, slice_index_or}
 use Rattle.std.specs.Str.{bytes_eq}
 use Rattle.values.specs.Firsts.{first_from}
 use Rattle.values.specs.Spelling.{spelling, nameable}
@@ -16,7 +16,7 @@ number_of ns w = first_from (λ n. bytes_eq n w) 0 ns
 -- i is the number of the name w, and the only one
 pub record Named (ns : List (List ℕ)) (w : List ℕ) (i : ℕ) : Type 0 where
   pub inside : i < length ns
-  pub is : get_or ns i [] ≡ w
+  pub is : slice_index_or ns i [] ≡ w
   pub only : (j : ℕ) → j < length ns → slice_index_or ns j [] ≡ w → j ≡ i
 
 -- no name is w
