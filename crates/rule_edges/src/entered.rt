@@ -1,7 +1,7 @@
 // What productions enter into the base, and which names they add.
 use crate::expect::*;
-use crate::shown::*;
 use crate::marks::*;
+use crate::shown::*;
 use std::alloc::AllocGlobal;
 use std::process::Abort;
 use std::test::Fail;

@@ -48,7 +48,13 @@ fn longest_text(rt: HostRuntime) -> Result<(), Fail> {
     // `nil`, the class, two attributes, two constants and 64 productions.
     assert_eq!(rt; reading.names.count(), 70);
     // The last byte ends the last production.
-    let front = stretched(heap, CLASS, b' ', b"", 32768usize.saturating_sub(productions.len()))?;
+    let front = stretched(
+        heap,
+        CLASS,
+        b' ',
+        b"",
+        32768usize.saturating_sub(productions.len()),
+    )?;
     let close = joined(heap, &front, &productions)?;
     assert_eq!(rt; close.len(), 32768);
     expect_taken(&rt, &close, 64)?;

@@ -94,9 +94,5 @@ fn names_of_a_production(rt: HostRuntime) -> Result<(), Fail> {
     expect_each_taken(&rt, CLASSES, &[b"(p a (c) --> )(p A (c) --> )"], 2)?;
     expect_each_taken(&rt, b"", &SHARED, 1)?;
     // No class is declared at all.
-    expect_each_refused(
-        &rt,
-        b"",
-        &[(b"(p a (@c) --> )", 3), (b"(p a (@nil", 3)],
-    )
+    expect_each_refused(&rt, b"", &[(b"(p a (@c) --> )", 3), (b"(p a (@nil", 3)])
 }

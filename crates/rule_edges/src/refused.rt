@@ -1,7 +1,7 @@
 // A refused production leaves the names, the rules and the words as they were; and places by their numbers.
 use crate::expect::*;
-use crate::shown::*;
 use crate::marks::*;
+use crate::shown::*;
 use std::test::Fail;
 use texts::*;
 use words::text::Words;
