@@ -1,4 +1,4 @@
-use Rattle.std.proofs.Common.{◌≡◌, [], length, Ok, vec_items, ap, ◌∙◌, arith}
+use Rattle.std.proofs.Common.{◌≡◌, [], length, Ok, ap, ◌∙◌, arith}
 use Rattle.std.proofs.lemmas.Result.{err_from_is_err_and}
 use Rattle.words.specs.Words.{rest, text_of}
 use Rattle.values.specs.Naming.{held}
@@ -29,7 +29,7 @@ returns c =
       from_start text (length (text_of w)) (declaring_classes c.in_ok-base.base) (held c.in_ok-names.names) (rest w) (Ok tt) (reached (declaring_classes d.base) (held d.names) (rest d.words)) end c.in_ok-base.ensures c.in_ok-names.ensures c.new-words.ensures.words c.in_default.ensures.all,
       (
         q,
-        commands-whole (length (text_of d.words)) (length text) (sealed_classes c.seal-base.result) (declaring_classes d.base) (held d.names) (rest d.words) (plain_model n.result) (model [] 0 256) q (vec_items c.new-out.result) (vec_items c.command_all.new.out)
-            (ap length c.declare_all.ensures.text ∙ end) c.new-out.ensures.items (c.seal-base.ensures.classes ∙ c.enter.ensures.classes) same c.in_ok-command_all.ensures,
+        rw c.into_bytes-2.ensures (commands-whole (length (text_of d.words)) (length text) (sealed_classes c.seal-base.result) (declaring_classes d.base) (held d.names) (rest d.words) (plain_model n.result) (model [] 0 256) q c.new-page.result c.command_all.new.page
+            (ap length c.declare_all.ensures.text ∙ end) c.new-page.ensures (c.seal-base.ensures.classes ∙ c.enter.ensures.classes) same c.in_ok-command_all.ensures),
       ),
     )
