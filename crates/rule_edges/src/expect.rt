@@ -75,10 +75,7 @@ pub(crate) fn called(heap: Global, reading: &mut Reading) -> Result<Answer, Fail
 // The place of the next word.
 fn next_place(words: &Words) -> Option<usize> {
     let mut ahead = *words;
-    match ahead.next() {
-        Some(word) => Some(word.place),
-        None => None,
-    }
+    ahead.next().map(|word| word.place)
 }
 
 fn kept(reading: &Reading) -> Kept {
