@@ -4,7 +4,7 @@ ghost use Rattle.words.specs.Bytes.{class_of};
 
 // A blank and a line feed separate words, a mark is a word by itself, a semicolon opens a comment, plain bytes make up
 // plain words, and a strange byte may stand in no word.
-#[derive(Clone, Copy)]
+#[derive(Clone, Copy, PartialEq, Eq, Debug)]
 pub(crate) enum Class {
     Blank,
     Feed,

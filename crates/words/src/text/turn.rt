@@ -6,7 +6,7 @@ use super::State;
 use crate::bytes::Class;
 
 // What a byte does: it is passed over, it is a word by itself, or it ends the plain word that began at a place.
-#[derive(Clone, Copy)]
+#[derive(Clone, Copy, PartialEq, Eq, Debug)]
 pub(super) enum Turn {
     Pass,
     Single,
