@@ -19,10 +19,9 @@ impl State {
         ensures told { result ≡ turned self.old class }
         ensures after { self.new ≡ moved self.old class at }
     {
-        match (&*self, class) {
+        match (*self, class) {
             (State::Within(_), Class::Plain) => Turn::Pass,
             (State::Within(start), _) => {
-                let start = *start;
                 *self = State::Between;
                 Turn::Ended(start)
             }
