@@ -17,12 +17,12 @@ pub(crate) enum Class {
 pub(crate) fn class_of(byte: u8) -> Class
     ensures { result ≡ class_of byte }
 {
-    match byte as char {
-        '(' | ')' | '^' => Class::Mark,
-        ';' => Class::Semicolon,
-        '\n' => Class::Feed,
-        ' ' | '\t' | '\r' => Class::Blank,
-        '!'..='~' => Class::Plain,
+    match byte {
+        b'(' | b')' | b'^' => Class::Mark,
+        b';' => Class::Semicolon,
+        b'\n' => Class::Feed,
+        b' ' | b'\t' | b'\r' => Class::Blank,
+        b'!'..=b'~' => Class::Plain,
         _ => Class::Strange,
     }
 }

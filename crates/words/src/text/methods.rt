@@ -15,10 +15,10 @@ fn single<'a>(text: &'a [u8], at: usize) -> Token<'a>
     requires { at < length text.now }
     ensures { kind_of result ≡ mark_kind (slice_index text.now at) }
 {
-    match text[at] as char {
-        '(' => Token::Open,
-        ')' => Token::Close,
-        '^' => Token::Hat,
+    match text[at] {
+        b'(' => Token::Open,
+        b')' => Token::Close,
+        b'^' => Token::Hat,
         _ => Token::Illegal(&text[at..at + 1]),
     }
 }
@@ -41,6 +41,7 @@ impl<'a> Words<'a> {
     }
 
     // The next word, and none at the end of the text.
+    // Not an Iterator's: tried, and behind a `for` over `by_ref` no proof knows which words are left.
     pub fn next(&mut self) -> Option<Word<'a>>
         ensures gave { Gave (rest self.old) result (rest self.new) }
         ensures text { text_of self.new ≡ text_of self.old }
