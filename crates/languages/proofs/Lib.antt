@@ -1,3 +1,5 @@
+pub mod Alike
 pub mod Following
 pub mod Kindwise
+pub mod Literals
 pub mod Steps
