@@ -14,6 +14,7 @@ use Rattle.languages.specs.Refusals.{over_limit}
 use Rattle.languages.specs.Senses.{sense}
 use Rattle.productions.specs.declared.draft.Draft.{Draft}
 use Rattle.productions.specs.declared.state.Step.{Step as Turn}
+use Rattle.productions.specs.declared.state.Halt.{Halt}
 use Rattle.productions.specs.Sofar.{full}
 use Rattle.productions.specs.Machine.{Move, on_chosen}
 use Rattle.productions.specs.Meaning.{Steps}
@@ -38,9 +39,9 @@ pub roomy : (most n : ℕ) (x : Move) → n < most → x ≡ unless (full most n
 roomy most n x h = sym (ap (λ b. unless (cond b (Some over_limit) None) x) (lt-leb most n h))
 
 -- a number that a word is, as the code hands it on
-pub number_step : (r : Turn) (ns : List (List ℕ)) (d : Draft) (x : ℤ → Move) (g : Kind → Move) (t : Token) (n z : ℤ) (b : _) → t ≡ Number n b → z ≡ n → Steps r ns d (x z) → Steps r ns d (on_number x g (sense (kind_of t)))
+pub number_step : (r : Result Turn Halt) (ns : List (List ℕ)) (d : Draft) (x : ℤ → Move) (g : Kind → Move) (t : Token) (n z : ℤ) (b : _) → t ≡ Number n b → z ≡ n → Steps r ns d (x z) → Steps r ns d (on_number x g (sense (kind_of t)))
 number_step r ns d x g t n z b is same h = subst (λ u. Steps r ns d (on_number x g (sense (kind_of u)))) (sym is) (subst (λ i. Steps r ns d (x i)) same h)
 
 -- and the same in a choice
-pub chosen_step : (r : Turn) (ns : List (List ℕ)) (d : Draft) (x g : Kind → Move) (t : Token) (n z : ℤ) (b : _) → t ≡ Number n b → z ≡ n → Steps r ns d (x (number z [])) → Steps r ns d (on_chosen x g (sense (kind_of t)))
+pub chosen_step : (r : Result Turn Halt) (ns : List (List ℕ)) (d : Draft) (x g : Kind → Move) (t : Token) (n z : ℤ) (b : _) → t ≡ Number n b → z ≡ n → Steps r ns d (x (number z [])) → Steps r ns d (on_chosen x g (sense (kind_of t)))
 chosen_step r ns d x g t n z b is same h = subst (λ u. Steps r ns d (on_chosen x g (sense (kind_of u)))) (sym is) (subst (λ i. Steps r ns d (x (number i []))) same h)
