@@ -21,20 +21,24 @@ unless (Some f) s = fails (cause_of f)
 
 -- ---- a state says what it takes, kind by kind, and then refuses the rest
 
+-- the cause that a word is refused with where the form cannot go on with it
+abbrev pub refused_with : Kind → Cause
+refused_with open' = UnexpectedWord
+refused_with close' = UnexpectedWord
+refused_with hat = UnexpectedWord
+refused_with minus = UnexpectedWord
+refused_with arrow = UnexpectedWord
+refused_with open_choice = UnexpectedWord
+refused_with close_choice = UnexpectedWord
+refused_with (test p) = UnexpectedWord
+refused_with (number n w) = UnexpectedWord
+refused_with (variable w) = UnexpectedWord
+refused_with (symbol w) = UnexpectedWord
+refused_with (illegal w) = IllegalWord
+
 -- a word that no text may have, and a word that cannot continue the form
 abbrev pub refuse : {S E : Type 0} → Kind → Step S E
-refuse open' = fails UnexpectedWord
-refuse close' = fails UnexpectedWord
-refuse hat = fails UnexpectedWord
-refuse minus = fails UnexpectedWord
-refuse arrow = fails UnexpectedWord
-refuse open_choice = fails UnexpectedWord
-refuse close_choice = fails UnexpectedWord
-refuse (test p) = fails UnexpectedWord
-refuse (number n w) = fails UnexpectedWord
-refuse (variable w) = fails UnexpectedWord
-refuse (symbol w) = fails UnexpectedWord
-refuse (illegal w) = fails IllegalWord
+refuse k = fails (refused_with k)
 
 -- `(`, or else another word
 abbrev pub on_open : {S E : Type 0} → Step S E → (Kind → Step S E) → Kind → Step S E

@@ -1,11 +1,15 @@
 -- Symbols of a text, by the numbers that they have or get, and what can be wrong with one. Assumes nothing.
-use Rattle.std.specs.Prelude.{◌≡◌, ℕ, Bool, cond, not, List, [], ◌++◌, ℤ, is_some, Some, None, Option}
+use Rattle.std.specs.Prelude.{◌≡◌, ℕ, Bool, cond, not, List, [], ◌++◌, ℤ, is_some, Some, None, Ok, Err, Option, Result}
 use Rattle.std.specs.Option.{unwrap_or}
 use Rattle.words.specs.Kinds.{Kind, number, symbol}
 use Rattle.values.specs.declared.value.Value.{Value}
 use Rattle.values.specs.declared.value.Value.TheVariants.{Symbol, Number}
 use Rattle.values.specs.Naming.{number_of, answer_intern, after_intern}
-use Rattle.rules.specs.Attributes.{Declared, new_class, field_of}
+use Rattle.rules.specs.Attributes.{Declared, declared, new_class, field_of}
+use Rattle.rules.specs.declared.class.Class.{Class}
+use Rattle.rules.specs.declared.place.Place.{Place}
+use Rattle.languages.specs.declared.refusal.Cause.{Cause}
+use Rattle.languages.specs.declared.refusal.Cause.TheVariants.{WrongName}
 use Rattle.rules.specs.Declarations.{find_class}
 use Rattle.languages.specs.Refusals.{Fault, wrong_name, over_limit}
 
@@ -38,6 +42,16 @@ class_named cs ns w = unwrap_or (class_at cs (number_of ns w)) (new_class 0)
 -- the field of an attribute, by its word; where the class lacks it, which no accepted form has, 0
 abbrev pub field_named : Declared → List (List ℕ) → List ℕ → ℕ
 field_named c ns w = unwrap_or (field_at c (number_of ns w)) 0
+
+-- looking a declared class up by its word: the class that was found, or else a wrong name
+abbrev pub FindsClass : List Declared → List (List ℕ) → List ℕ → Result Class Cause → Type 0
+FindsClass cs ns w (Ok c) = class_at cs (number_of ns w) ≡ Some (declared c)
+FindsClass cs ns w (Err x) = (class_at cs (number_of ns w) ≡ None) × (x ≡ WrongName)
+
+-- looking an attribute of a class up by its word: the field that was found, or else a wrong name
+abbrev pub FindsField : Declared → List (List ℕ) → List ℕ → Result Place Cause → Type 0
+FindsField c ns w (Ok p) = field_at c (number_of ns w) ≡ Some p.number
+FindsField c ns w (Err x) = (field_at c (number_of ns w) ≡ None) × (x ≡ WrongName)
 
 -- ---- constants
 

@@ -1,5 +1,7 @@
 -- The numbers of a reader's refusals. Assumes nothing.
 use Rattle.std.specs.Prelude.{ℕ}
+use Rattle.rules.specs.declared.class.ClassRefusal.{ClassRefusal}
+use Rattle.rules.specs.declared.class.ClassRefusal.TheVariants.{Twice, TooMany}
 use Rattle.languages.specs.declared.refusal.Cause.{Cause}
 use Rattle.languages.specs.declared.refusal.Cause.TheVariants.{IllegalWord, UnexpectedWord, WrongName, WrongVariable, NoSuchCondition, OverLimit}
 
@@ -22,3 +24,8 @@ cause_of wrong_name = WrongName
 cause_of wrong_variable = WrongVariable
 cause_of no_such_condition = NoSuchCondition
 cause_of over_limit = OverLimit
+
+-- the cause of a class or attribute that is not taken
+abbrev pub class_cause : ClassRefusal → Cause
+class_cause Twice = WrongName
+class_cause TooMany = OverLimit

@@ -1,5 +1,6 @@
 // What the readers of forms share: why a form is refused, and what it is to read the forms of a language word by word.
 #![tactic(auto)]
 
+pub mod naming;
 pub mod refusal;
 pub mod text;

@@ -31,31 +31,22 @@ pub fn form_comes(words: &Words, head: &[u8]) -> bool
     ensures { result ≡ comes_next head.now (rest words.now) }
 {
     let mut ahead = *words;
-    let Some(first) = ahead.next() else {
-        return false;
-    };
-    let Some(second) = ahead.next() else {
-        return false;
-    };
-    is_open(&first.token) && is_symbol(&second.token, head)
+    match (ahead.next(), ahead.next()) {
+        (Some(first), Some(second)) => is_open(&first.token) && is_symbol(&second.token, head),
+        _ => false,
+    }
 }
 
 // Whether a word is `(`.
 fn is_open(token: &Token) -> bool
     ensures { result ≡ is_open (kind_of token.now) }
 {
-    match token {
-        Token::Open => true,
-        _ => false,
-    }
+    matches!(token, Token::Open)
 }
 
 // Whether a word is this symbol.
 fn is_symbol(token: &Token, symbol: &[u8]) -> bool
     ensures { result ≡ is_symbol symbol.now (kind_of token.now) }
 {
-    match token {
-        Token::Symbol(word) => is(word, symbol),
-        _ => false,
-    }
+    matches!(token, Token::Symbol(word) if is(word, symbol))
 }
