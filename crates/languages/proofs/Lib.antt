@@ -1,3 +1,4 @@
 pub mod Following
 pub mod Kindwise
+pub mod Literals
 pub mod Steps
