@@ -1,5 +1,5 @@
 -- What the values of the reader of productions mean. Assumes nothing.
-use Rattle.std.specs.Prelude.{◌≡◌, ℕ, Bool, List, map, Some, None, Ok, Err, vec_items, Option, Result}
+use Rattle.std.specs.Prelude.{◌≡◌, ℕ, Bool, List, map, Some, None, Ok, Err, vec_items, Option, Result, slice_index_or}
 use Rattle.values.specs.Spelling.{spelling}
 use Rattle.rules.specs.declared.place.Place.{Place}
 use Rattle.languages.specs.declared.refusal.Cause.{Cause}
@@ -19,9 +19,11 @@ use Rattle.productions.specs.declared.state.Step.{Step as Turn}
 use Rattle.productions.specs.declared.state.Step.TheVariants.{Onward, Whole}
 use Rattle.productions.specs.declared.state.Halt.{Halt}
 use Rattle.productions.specs.declared.state.Halt.TheVariants.{Refused, NoMemory}
+use Rattle.productions.specs.declared.trouble.Trouble.{Trouble}
+use Rattle.productions.specs.declared.trouble.Trouble.TheVariants.{Refused as TextRefused, NoMemory as OutOfMemory}
 use Rattle.productions.specs.declared.variables.Variable.{Variable}
 use Rattle.productions.specs.declared.variables.Variables.{Variables}
-use Rattle.productions.specs.Sofar.{Met, Sofar, rule_read, first_met, met_fault_among, unbound_among, number_among, met_too, Acting, on_make, on_modify}
+use Rattle.productions.specs.Sofar.{Met, Sofar, rule_read, first_met, nobody, met_fault_among, unbound_among, number_among, met_too, Acting, on_make, on_modify}
 use Rattle.productions.specs.Machine.{State, at_opening, at_head, at_name, at_first, at_conditions, at_negated, at_class, at_pairs, at_attribute, at_test, at_choice, at_operand, at_choices, at_actions, at_action, at_make, at_modify, at_remove, at_closing, at_settings, at_setting, at_value, Move}
 
 -- the variables that were met
@@ -29,10 +31,12 @@ abbrev pub met_of : Variable → Met
 met_of v = record { word = spelling v.name; negated = v.negated; condition = v.condition }
 
 abbrev pub variables_of : Variables → List Met
-variables_of v = map met_of (vec_items v.list)
+variables_of v = map met_of v.list
 
-abbrev pub number_of_place : Place → ℕ
-number_of_place p = p.number
+-- what looking a variable up answers: its number, and where it was met
+abbrev pub Finds : List Met → List ℕ → Option (Place × Variable) → Type 0
+Finds vs w (Some (p, v)) = (first_met vs w ≡ Some p.number) × (slice_index_or vs p.number nobody ≡ met_of v)
+Finds vs w None = first_met vs w ≡ None
 
 -- an answer that is refused with what is wrong, and is so where nothing is wrong
 abbrev pub Judges : {X : Type 0} → Result X Cause → Option Fault → (X → Type 0) → Type 0
@@ -108,3 +112,8 @@ Steps (Err NoMemory) ns d t = (s : State) × (onward s ≡ t)
 -- the same of a turn that may add names: they were ns, and are then ms
 abbrev pub Moves : Result Turn Halt → List (List ℕ) → List (List ℕ) → Draft → Move → Type 0
 Moves r ns ms d t = Steps r ms d t × Grows ns ms
+
+-- why a production is not read, by why its word at this place is not taken
+abbrev pub trouble_at : Halt → ℕ → Trouble
+trouble_at (Refused c) place = TextRefused (record { cause = c; place = place })
+trouble_at NoMemory place = OutOfMemory

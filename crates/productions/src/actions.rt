@@ -14,10 +14,10 @@ ghost use Rattle.productions.specs.Sofar.{with_action, one_setting, rule_read, a
 ghost use Rattle.productions.specs.Machine.{at_actions, at_action, at_closing, at_settings, at_setting, on_operand, action_word, make_word, modify_word, remove_word, setting_word, value_word};
 ghost use Rattle.productions.specs.Meaning.{sofar_of, acting_of, settings_of, Judges, Steps, Moves};
 
-use crate::conditions::field_named;
 use crate::draft::{Acting, Draft, count};
 use crate::state::{Halt, State, Step};
-use languages::refusal::Cause;
+use languages::naming::{class_named, field_named};
+use languages::refusal::{Cause, unexpected};
 use rules::action::{Action, Setting, Term};
 use rules::class::Class;
 use rules::classes::Classes;
@@ -38,8 +38,7 @@ pub(crate) fn at_closing(token: &Token) -> Result<Step, Halt>
 {
     match token {
         Token::Close => Ok(Step::Onward(State::Actions)),
-        Token::Illegal(_) => Err(Halt::Refused(Cause::IllegalWord)),
-        _ => Err(Halt::Refused(Cause::UnexpectedWord)),
+        _ => Err(Halt::Refused(unexpected(token))),
     }
 }
 
@@ -80,8 +79,7 @@ impl Draft {
         match token {
             Token::Open => self.open_action(),
             Token::Close => Ok(Step::Whole),
-            Token::Illegal(_) => Err(Halt::Refused(Cause::IllegalWord)),
-            _ => Err(Halt::Refused(Cause::UnexpectedWord)),
+            _ => Err(Halt::Refused(unexpected(token))),
         }
     }
 
@@ -109,8 +107,7 @@ impl Draft {
     {
         match token {
             Token::Symbol(word) => self.action_head(word),
-            Token::Illegal(_) => Err(Halt::Refused(Cause::IllegalWord)),
-            _ => Err(Halt::Refused(Cause::UnexpectedWord)),
+            _ => Err(Halt::Refused(unexpected(token))),
         }
     }
 
@@ -147,8 +144,7 @@ impl Draft {
     {
         match token {
             Token::Symbol(word) => self.make_class(word, names, classes),
-            Token::Illegal(_) => Err(Halt::Refused(Cause::IllegalWord)),
-            _ => Err(Halt::Refused(Cause::UnexpectedWord)),
+            _ => Err(Halt::Refused(unexpected(token))),
         }
     }
 
@@ -156,8 +152,7 @@ impl Draft {
     fn make_class(&mut self, word: &[u8], names: &Names, classes: &Classes) -> Result<Step, Halt>
         ensures { Steps result (held names.now) self.new (make_word (classes_of classes.now) (sofar_of (held names.now) self.old) word.now) }
     {
-        let number = names.find(word).ok_or(Cause::WrongName)?;
-        let class = classes.find(number).ok_or(Cause::WrongName)?;
+        let class = class_named(names, classes, word)?;
         Ok(self.begin_settings(Acting::Make(class)))
     }
 
@@ -176,8 +171,7 @@ impl Draft {
     {
         match token {
             Token::Number(number, _) => self.modify(*number),
-            Token::Illegal(_) => Err(Halt::Refused(Cause::IllegalWord)),
-            _ => Err(Halt::Refused(Cause::UnexpectedWord)),
+            _ => Err(Halt::Refused(unexpected(token))),
         }
     }
 
@@ -195,8 +189,7 @@ impl Draft {
     {
         match token {
             Token::Number(number, _) => self.remove(*number),
-            Token::Illegal(_) => Err(Halt::Refused(Cause::IllegalWord)),
-            _ => Err(Halt::Refused(Cause::UnexpectedWord)),
+            _ => Err(Halt::Refused(unexpected(token))),
         }
     }
 
@@ -215,8 +208,7 @@ impl Draft {
         match token {
             Token::Hat => Ok(Step::Onward(State::Setting)),
             Token::Close => self.close_action(),
-            Token::Illegal(_) => Err(Halt::Refused(Cause::IllegalWord)),
-            _ => Err(Halt::Refused(Cause::UnexpectedWord)),
+            _ => Err(Halt::Refused(unexpected(token))),
         }
     }
 
@@ -235,8 +227,7 @@ impl Draft {
     {
         match token {
             Token::Symbol(word) => self.set_field(word, names),
-            Token::Illegal(_) => Err(Halt::Refused(Cause::IllegalWord)),
-            _ => Err(Halt::Refused(Cause::UnexpectedWord)),
+            _ => Err(Halt::Refused(unexpected(token))),
         }
     }
 
@@ -244,8 +235,7 @@ impl Draft {
     fn set_field(&self, word: &[u8], names: &Names) -> Result<Step, Halt>
         ensures { Steps result (held names.now) self.now (setting_word (sofar_of (held names.now) self.now) (acting_of self.now.acting) (settings_of self.now.settings.items) word.now) }
     {
-        let class = self.acting.class();
-        let field = field_named(&class, word, names).ok_or(Cause::WrongName)?;
+        let field = field_named(names, &self.acting.class(), word)?;
         Ok(Step::Onward(State::Value(field)))
     }
 
@@ -287,8 +277,7 @@ impl Draft {
             Token::Number(n, _) => self.add_setting(field, Term::Constant(Value::Number(*n))),
             Token::Symbol(word) => self.set_symbol(field, word, names),
             Token::Variable(word) => self.set_variable(field, word),
-            Token::Illegal(_) => Err(Halt::Refused(Cause::IllegalWord)),
-            _ => Err(Halt::Refused(Cause::UnexpectedWord)),
+            _ => Err(Halt::Refused(unexpected(token))),
         }
     }
 }

@@ -1,26 +1,22 @@
 // The words of conditions, but for their tests.
 ghost use Rattle.std.specs.Prelude.{◌≡◌, ℕ, Bool, false, List};
 ghost use Rattle.words.specs.Kinds.{kind_of};
-ghost use Rattle.values.specs.Naming.{held, number_of};
-ghost use Rattle.rules.specs.Attributes.{declared};
+ghost use Rattle.values.specs.Naming.{held};
 ghost use Rattle.rules.specs.Rules.{condition_of};
-ghost use Rattle.languages.specs.Naming.{field_at};
 ghost use Rattle.rules.specs.Declarations.{classes_of};
-ghost use Rattle.std.specs.Option.{option_map};
 ghost use Rattle.languages.specs.Machines.{onward, unless, refuse, on_open, on_close, on_hat, on_minus, on_arrow, on_symbol};
 ghost use Rattle.languages.specs.Senses.{sense};
 ghost use Rattle.productions.specs.Sofar.{with_condition, condition_fault, negated_fault};
 ghost use Rattle.productions.specs.Machine.{at_conditions, at_class, at_negated, at_actions, at_attribute, class_word, attribute_word};
-ghost use Rattle.productions.specs.Meaning.{sofar_of, number_of_place, Steps};
+ghost use Rattle.productions.specs.Meaning.{sofar_of, Steps};
 
 use crate::draft::{Draft, blank_condition, count};
 use crate::state::{Halt, State, Step};
-use languages::refusal::Cause;
-use rules::class::Class;
+use languages::naming::{class_named, field_named};
+use languages::refusal::{Cause, unexpected};
 use rules::classes::Classes;
 use rules::condition::Condition;
 use rules::conditions::count_unnegated;
-use rules::place::Place;
 use rules::size::MOST_TESTS;
 use std::mem::replace;
 use values::names::Names;
@@ -37,8 +33,7 @@ pub(crate) fn at_pattern(negated: bool, token: &Token) -> Result<Step, Halt>
 {
     match token {
         Token::Open => Ok(Step::Onward(State::Class(negated))),
-        Token::Illegal(_) => Err(Halt::Refused(Cause::IllegalWord)),
-        _ => Err(Halt::Refused(Cause::UnexpectedWord)),
+        _ => Err(Halt::Refused(unexpected(token))),
     }
 }
 
@@ -51,8 +46,7 @@ impl Draft {
             Token::Open => self.open_condition(),
             Token::Minus => self.negate_condition(),
             Token::Arrow => Ok(Step::Onward(State::Actions)),
-            Token::Illegal(_) => Err(Halt::Refused(Cause::IllegalWord)),
-            _ => Err(Halt::Refused(Cause::UnexpectedWord)),
+            _ => Err(Halt::Refused(unexpected(token))),
         }
     }
 
@@ -91,8 +85,7 @@ impl Draft {
     {
         match token {
             Token::Symbol(word) => self.begin_condition(negated, word, names, classes),
-            Token::Illegal(_) => Err(Halt::Refused(Cause::IllegalWord)),
-            _ => Err(Halt::Refused(Cause::UnexpectedWord)),
+            _ => Err(Halt::Refused(unexpected(token))),
         }
     }
 
@@ -106,8 +99,7 @@ impl Draft {
     ) -> Result<Step, Halt>
         ensures { Steps result (held names.now) self.new (class_word (classes_of classes.now) (sofar_of (held names.now) self.old) negated word.now) }
     {
-        let number = names.find(word).ok_or(Cause::WrongName)?;
-        let class = classes.find(number).ok_or(Cause::WrongName)?;
+        let class = class_named(names, classes, word)?;
         count(&mut self.used.tests, MOST_TESTS)?;
         self.condition.negated = negated;
         self.condition.class = class;
@@ -122,8 +114,7 @@ impl Draft {
         match token {
             Token::Hat => Ok(Step::Onward(State::Attribute)),
             Token::Close => self.close_condition(),
-            Token::Illegal(_) => Err(Halt::Refused(Cause::IllegalWord)),
-            _ => Err(Halt::Refused(Cause::UnexpectedWord)),
+            _ => Err(Halt::Refused(unexpected(token))),
         }
     }
 
@@ -142,8 +133,7 @@ impl Draft {
     {
         match token {
             Token::Symbol(word) => self.tested_field(word, names),
-            Token::Illegal(_) => Err(Halt::Refused(Cause::IllegalWord)),
-            _ => Err(Halt::Refused(Cause::UnexpectedWord)),
+            _ => Err(Halt::Refused(unexpected(token))),
         }
     }
 
@@ -151,18 +141,7 @@ impl Draft {
     fn tested_field(&self, word: &[u8], names: &Names) -> Result<Step, Halt>
         ensures { Steps result (held names.now) self.now (attribute_word (sofar_of (held names.now) self.now) (condition_of self.now.condition) word.now) }
     {
-        let field = field_named(&self.condition.class, word, names).ok_or(Cause::WrongName)?;
+        let field = field_named(names, &self.condition.class, word)?;
         Ok(Step::Onward(State::Test(field)))
     }
-}
-
-// The field of an attribute of the class, by its word.
-pub(crate) fn field_named(class: &Class, word: &[u8], names: &Names) -> Option<Place>
-    ensures { option_map number_of_place result ≡ field_at (declared class.now) (number_of (held names.now) word.now) }
-{
-    let number = names.find(word)?;
-    let field = class.field_of(number)?;
-    Some(Place {
-        number: field as u8,
-    })
 }

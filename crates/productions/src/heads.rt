@@ -10,7 +10,7 @@ ghost use Rattle.productions.specs.Meaning.{Steps, Moves};
 
 use crate::draft::Draft;
 use crate::state::{Halt, State, Step};
-use languages::refusal::Cause;
+use languages::refusal::{Cause, unexpected};
 use rules::base::{Entering, MOST_RULES};
 use values::names::Names;
 use words::token::Token;
@@ -21,8 +21,7 @@ pub(crate) fn at_opening(token: &Token) -> Result<Step, Halt>
 {
     match token {
         Token::Open => Ok(Step::Onward(State::Head)),
-        Token::Illegal(_) => Err(Halt::Refused(Cause::IllegalWord)),
-        _ => Err(Halt::Refused(Cause::UnexpectedWord)),
+        _ => Err(Halt::Refused(unexpected(token))),
     }
 }
 
@@ -32,8 +31,7 @@ pub(crate) fn at_head(token: &Token) -> Result<Step, Halt>
 {
     match token {
         Token::Symbol(b"p") => Ok(Step::Onward(State::Name)),
-        Token::Illegal(_) => Err(Halt::Refused(Cause::IllegalWord)),
-        _ => Err(Halt::Refused(Cause::UnexpectedWord)),
+        _ => Err(Halt::Refused(unexpected(token))),
     }
 }
 
@@ -49,8 +47,7 @@ impl Draft {
     {
         match token {
             Token::Symbol(word) => self.begin(word, names, base),
-            Token::Illegal(_) => Err(Halt::Refused(Cause::IllegalWord)),
-            _ => Err(Halt::Refused(Cause::UnexpectedWord)),
+            _ => Err(Halt::Refused(unexpected(token))),
         }
     }
 

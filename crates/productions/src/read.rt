@@ -10,7 +10,7 @@ ghost use Rattle.productions.specs.Said.{Said};
 ghost use Rattle.productions.specs.Kept.{RulesKept};
 
 use crate::draft::Draft;
-use crate::state::{Halt, State, Step};
+use crate::state::{State, Step};
 use crate::trouble::Trouble;
 use languages::refusal::{Cause, Refusal};
 use languages::text::{check_length, form_comes};
@@ -29,14 +29,10 @@ impl Draft {
         let end = words.text().len();
         let mut state = State::Opening;
         while let Some(word) = words.next() {
-            match self.turn(state, &word.token, names, base) {
-                Ok(Step::Onward(next)) => state = next,
-                Ok(Step::Whole) => return Ok(()),
-                Err(Halt::Refused(cause)) => return Err(Trouble::Refused(Refusal {
-                    cause,
-                    place: word.place,
-                })),
-                Err(Halt::NoMemory) => return Err(Trouble::NoMemory),
+            let step = self.turn(state, &word.token, names, base);
+            match step.map_err(|halt| halt.at(word.place))? {
+                Step::Onward(next) => state = next,
+                Step::Whole => return Ok(()),
             }
         }
         Err(Trouble::Refused(Refusal {

@@ -1,8 +1,10 @@
 // What may come next in a production.
 ghost use Rattle.std.specs.Prelude.{◌≡◌};
 ghost use Rattle.productions.specs.declared.state.Halt.TheVariants.{Refused, NoMemory};
+ghost use Rattle.productions.specs.Meaning.{trouble_at};
 
-use languages::refusal::Cause;
+use crate::trouble::Trouble;
+use languages::refusal::{Cause, Refusal};
 use rules::place::Place;
 use std::alloc::AllocFailed;
 use words::token::Predicate;
@@ -67,6 +69,18 @@ pub(crate) enum Step {
 pub(crate) enum Halt {
     Refused(Cause),
     NoMemory,
+}
+
+impl Halt {
+    // The same of a production, where the word stands at this place.
+    pub(crate) fn at(self, place: usize) -> Trouble
+        ensures { result ≡ trouble_at self place }
+    {
+        match self {
+            Halt::Refused(cause) => Trouble::Refused(Refusal { cause, place }),
+            Halt::NoMemory => Trouble::NoMemory,
+        }
+    }
 }
 
 impl From<Cause> for Halt {

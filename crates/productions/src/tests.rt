@@ -13,7 +13,7 @@ ghost use Rattle.productions.specs.Meaning.{sofar_of, Steps, Moves};
 
 use crate::draft::{Draft, count};
 use crate::state::{Halt, State, Step};
-use languages::refusal::Cause;
+use languages::refusal::{Cause, unexpected};
 use rules::condition::{FieldTest, Test};
 use rules::place::Place;
 use rules::size::{MOST_CONSTANTS, MOST_TESTS};
@@ -105,8 +105,7 @@ impl Draft {
             Token::Variable(word) => self.bare_variable(field, word),
             Token::Test(predicate) => self.open_comparison(field, *predicate),
             Token::OpenChoice => self.open_choice(field),
-            Token::Illegal(_) => Err(Halt::Refused(Cause::IllegalWord)),
-            _ => Err(Halt::Refused(Cause::UnexpectedWord)),
+            _ => Err(Halt::Refused(unexpected(token))),
         }
     }
 
@@ -160,8 +159,7 @@ impl Draft {
             ),
             Token::Symbol(word) => self.compared_symbol(field, predicate, word, names),
             Token::Variable(word) => self.compared_variable(field, predicate, word),
-            Token::Illegal(_) => Err(Halt::Refused(Cause::IllegalWord)),
-            _ => Err(Halt::Refused(Cause::UnexpectedWord)),
+            _ => Err(Halt::Refused(unexpected(token))),
         }
     }
 
@@ -194,8 +192,7 @@ impl Draft {
             Token::Minus => self.chosen_symbol(field, b"-", names),
             Token::Arrow => self.chosen_symbol(field, b"-->", names),
             Token::OpenChoice => self.chosen_symbol(field, b"<<", names),
-            Token::Illegal(_) => Err(Halt::Refused(Cause::IllegalWord)),
-            _ => Err(Halt::Refused(Cause::UnexpectedWord)),
+            _ => Err(Halt::Refused(unexpected(token))),
         }
     }
 

@@ -1,5 +1,4 @@
 use Rattle.std.proofs.Common.{w32, SFits, rules}
-use Rattle.std.proofs.lemmas.Int.{to_z-of_z}
 use Rattle.values.specs.Naming.{held}
 use Rattle.rules.specs.Rules.{condition_of}
 use Rattle.languages.specs.Machines.{on_symbol, on_variable, refuse}
@@ -16,6 +15,6 @@ returns-in-Number c =
     let d = c.args.self.now in
     let x = λ (o : _). compared_word (sofar_of ns d) (condition_of d.condition) c.args.field.number c.args.predicate o in
     let f : SFits w32 c.in-Number.n = search rules in (
-      number_step c.add_test.result ns c.add_test.new.self (λ n. x (fixed (numeric n))) (on_symbol (compared_symbol (sofar_of ns d) (condition_of d.condition) c.args.field.number c.args.predicate) (on_variable (λ w. x (named w)) refuse)) c.args.token.now c.in-Number.n _ _ c.in-Number.is (to_z-of_z w32 c.in-Number.n f) (c.add_test.ensures ns),
+      number_step c.add_test.result ns c.add_test.new.self (λ n. x (fixed (numeric n))) (on_symbol (compared_symbol (sofar_of ns d) (condition_of d.condition) c.args.field.number c.args.predicate) (on_variable (λ w. x (named w)) refuse)) c.args.token.now c.in-Number.n _ f c.in-Number.is (c.add_test.ensures ns),
       search rules,
     )
