@@ -45,13 +45,11 @@ Judges (Err c) f P = (g : Fault) × (f ≡ Some g) × (c ≡ cause_of g)
 
 -- what meeting a variable in the condition n answers, and the variables after it
 abbrev pub Meets : List Met → List ℕ → Bool → Bool → ℕ → Result Place Cause → List Met → Type 0
-Meets vs w binds negated n (Ok p) us = (met_fault_among vs n binds w (first_met vs w) ≡ None) × (p.number ≡ number_among vs w) × (us ≡ met_too vs negated n w)
-Meets vs w binds negated n (Err c) us = (f : Fault) × (met_fault_among vs n binds w (first_met vs w) ≡ Some f) × (c ≡ cause_of f)
+Meets vs w binds negated n r us = Judges r (met_fault_among vs n binds w (first_met vs w)) (λ p. (p.number ≡ number_among vs w) × (us ≡ met_too vs negated n w))
 
 -- what looking a variable up for an action answers
 abbrev pub Gives : List Met → List ℕ → Result Place Cause → Type 0
-Gives vs w (Ok p) = (unbound_among vs (first_met vs w) ≡ None) × (p.number ≡ number_among vs w)
-Gives vs w (Err c) = (f : Fault) × (unbound_among vs (first_met vs w) ≡ Some f) × (c ≡ cause_of f)
+Gives vs w r = Judges r (unbound_among vs (first_met vs w)) (λ p. p.number ≡ number_among vs w)
 
 -- ---- a draft
 

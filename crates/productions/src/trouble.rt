@@ -5,7 +5,7 @@ ghost use Rattle.productions.specs.declared.trouble.Trouble.TheVariants.{Refused
 use languages::refusal::Refusal;
 use std::alloc::AllocError;
 
-#[derive(Clone, Copy)]
+#[derive(Clone, Copy, Debug)]
 pub enum Trouble {
     // The text breaks a rule.
     Refused(Refusal),
