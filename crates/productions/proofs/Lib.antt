@@ -1,5 +1,4 @@
 pub mod Rests
-pub mod Meeting
 pub mod Carrying
 pub mod Bound
 pub mod Fit

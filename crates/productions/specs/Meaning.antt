@@ -1,24 +1,29 @@
 -- What the values of the reader of productions mean. Assumes nothing.
-use Rattle.std.specs.Prelude.{◌≡◌, ℕ, Bool, List, map, Some, None, Ok, Err, vec_items, Result}
+use Rattle.std.specs.Prelude.{◌≡◌, ℕ, Bool, List, map, Some, None, Ok, Err, vec_items, Option, Result, slice_index_or}
 use Rattle.values.specs.Spelling.{spelling}
 use Rattle.rules.specs.declared.place.Place.{Place}
 use Rattle.languages.specs.declared.refusal.Cause.{Cause}
 use Rattle.languages.specs.Refusals.{Fault, cause_of}
 use Rattle.rules.specs.Attributes.{declared}
-use Rattle.rules.specs.Rules.{Condition, Setting as SettingMeant, setting_of, field_tests_of, conditions_of, actions_of}
+use Rattle.rules.specs.Rules.{Setting as SettingMeant, setting_of, condition_of, conditions_of, actions_of}
 use Rattle.rules.specs.Sizes.{size_meant}
 use Rattle.rules.specs.declared.action.Setting.{Setting as RustSetting}
 use Rattle.languages.specs.Machines.{onward, whole, fails}
+use Rattle.languages.specs.Naming.{Grows}
 use Rattle.productions.specs.declared.draft.Acting.{Acting as RustActing}
 use Rattle.productions.specs.declared.draft.Acting.TheVariants.{Make, Modify}
 use Rattle.productions.specs.declared.draft.Draft.{Draft}
 use Rattle.productions.specs.declared.state.State.{State as RustState}
 use Rattle.productions.specs.declared.state.State.TheVariants.{Opening, Head, Name, First, Conditions, Negated, Class, Pairs, Attribute, Test, Operand, Choice, Choices, Actions, Action, Make as StateMake, Modify as StateModify, Remove, Closing, Settings, Setting, Value}
 use Rattle.productions.specs.declared.state.Step.{Step as Turn}
-use Rattle.productions.specs.declared.state.Step.TheVariants.{Onward, Whole, Fails, Starved}
+use Rattle.productions.specs.declared.state.Step.TheVariants.{Onward, Whole}
+use Rattle.productions.specs.declared.state.Halt.{Halt}
+use Rattle.productions.specs.declared.state.Halt.TheVariants.{Refused, NoMemory}
+use Rattle.productions.specs.declared.trouble.Trouble.{Trouble}
+use Rattle.productions.specs.declared.trouble.Trouble.TheVariants.{Refused as TextRefused, NoMemory as OutOfMemory}
 use Rattle.productions.specs.declared.variables.Variable.{Variable}
 use Rattle.productions.specs.declared.variables.Variables.{Variables}
-use Rattle.productions.specs.Sofar.{Met, Sofar, rule_read, first_met, met_fault_among, unbound_among, number_among, met_too, Acting, on_make, on_modify}
+use Rattle.productions.specs.Sofar.{Met, Sofar, rule_read, first_met, nobody, met_fault_among, unbound_among, number_among, met_too, Acting, on_make, on_modify}
 use Rattle.productions.specs.Machine.{State, at_opening, at_head, at_name, at_first, at_conditions, at_negated, at_class, at_pairs, at_attribute, at_test, at_choice, at_operand, at_choices, at_actions, at_action, at_make, at_modify, at_remove, at_closing, at_settings, at_setting, at_value, Move}
 
 -- the variables that were met
@@ -26,20 +31,25 @@ abbrev pub met_of : Variable → Met
 met_of v = record { word = spelling v.name; negated = v.negated; condition = v.condition }
 
 abbrev pub variables_of : Variables → List Met
-variables_of v = map met_of (vec_items v.list)
+variables_of v = map met_of v.list
 
-abbrev pub number_of_place : Place → ℕ
-number_of_place p = p.number
+-- what looking a variable up answers: its number, and where it was met
+abbrev pub Finds : List Met → List ℕ → Option (Place × Variable) → Type 0
+Finds vs w (Some (p, v)) = (first_met vs w ≡ Some p.number) × (slice_index_or vs p.number nobody ≡ met_of v)
+Finds vs w None = first_met vs w ≡ None
+
+-- an answer that is refused with what is wrong, and is so where nothing is wrong
+abbrev pub Judges : {X : Type 0} → Result X Cause → Option Fault → (X → Type 0) → Type 0
+Judges (Ok x) f P = (f ≡ None) × P x
+Judges (Err c) f P = (g : Fault) × (f ≡ Some g) × (c ≡ cause_of g)
 
 -- what meeting a variable in the condition n answers, and the variables after it
 abbrev pub Meets : List Met → List ℕ → Bool → Bool → ℕ → Result Place Cause → List Met → Type 0
-Meets vs w binds negated n (Ok p) us = (met_fault_among vs n binds w (first_met vs w) ≡ None) × (p.number ≡ number_among vs w) × (us ≡ met_too vs negated n w)
-Meets vs w binds negated n (Err c) us = (f : Fault) × (met_fault_among vs n binds w (first_met vs w) ≡ Some f) × (c ≡ cause_of f)
+Meets vs w binds negated n r us = Judges r (met_fault_among vs n binds w (first_met vs w)) (λ p. (p.number ≡ number_among vs w) × (us ≡ met_too vs negated n w))
 
 -- what looking a variable up for an action answers
 abbrev pub Gives : List Met → List ℕ → Result Place Cause → Type 0
-Gives vs w (Ok p) = (unbound_among vs (first_met vs w) ≡ None) × (p.number ≡ number_among vs w)
-Gives vs w (Err c) = (f : Fault) × (unbound_among vs (first_met vs w) ≡ Some f) × (c ≡ cause_of f)
+Gives vs w r = Judges r (unbound_among vs (first_met vs w)) (λ p. p.number ≡ number_among vs w)
 
 -- ---- a draft
 
@@ -62,10 +72,6 @@ sofar_of ns d =
       used = size_meant d.used;
     }
 
--- the condition that is being read
-abbrev pub condition_now : Draft → Condition
-condition_now d = record { negated = d.negated; class = declared d.class; tests = field_tests_of (vec_items d.tests) }
-
 -- ---- states and steps
 
 -- a state of the code, where the names are ns, as a state of the reading
@@ -77,12 +83,12 @@ state_of ns d First = at_first (sofar_of ns d)
 state_of ns d Conditions = at_conditions (sofar_of ns d)
 state_of ns d Negated = at_negated (sofar_of ns d)
 state_of ns d (Class b) = at_class (sofar_of ns d) b
-state_of ns d Pairs = at_pairs (sofar_of ns d) (condition_now d)
-state_of ns d Attribute = at_attribute (sofar_of ns d) (condition_now d)
-state_of ns d (Test f) = at_test (sofar_of ns d) (condition_now d) f.number
-state_of ns d (Operand f p) = at_operand (sofar_of ns d) (condition_now d) f.number p
-state_of ns d (Choice f) = at_choice (sofar_of ns d) (condition_now d) f.number
-state_of ns d (Choices f) = at_choices (sofar_of ns d) (condition_now d) f.number (vec_items d.choice)
+state_of ns d Pairs = at_pairs (sofar_of ns d) (condition_of d.condition)
+state_of ns d Attribute = at_attribute (sofar_of ns d) (condition_of d.condition)
+state_of ns d (Test f) = at_test (sofar_of ns d) (condition_of d.condition) f.number
+state_of ns d (Operand f p) = at_operand (sofar_of ns d) (condition_of d.condition) f.number p
+state_of ns d (Choice f) = at_choice (sofar_of ns d) (condition_of d.condition) f.number
+state_of ns d (Choices f) = at_choices (sofar_of ns d) (condition_of d.condition) f.number (vec_items d.choice)
 state_of ns d Actions = at_actions (sofar_of ns d)
 state_of ns d Action = at_action (sofar_of ns d)
 state_of ns d StateMake = at_make (sofar_of ns d)
@@ -95,8 +101,17 @@ state_of ns d (Value f) = at_value (sofar_of ns d) (acting_of d.acting) (setting
 
 -- a turn of the code is a step of the reading, where the names and the draft are then these; memory runs out only at a word that
 -- leads on
-abbrev pub Steps : Turn → List (List ℕ) → Draft → Move → Type 0
-Steps (Onward s) ns d t = onward (state_of ns d s) ≡ t
-Steps Whole ns d t = whole (rule_read (sofar_of ns d), ns) ≡ t
-Steps (Fails c) ns d t = fails c ≡ t
-Steps Starved ns d t = (s : State) × (onward s ≡ t)
+abbrev pub Steps : Result Turn Halt → List (List ℕ) → Draft → Move → Type 0
+Steps (Ok (Onward s)) ns d t = onward (state_of ns d s) ≡ t
+Steps (Ok Whole) ns d t = whole (rule_read (sofar_of ns d), ns) ≡ t
+Steps (Err (Refused c)) ns d t = fails c ≡ t
+Steps (Err NoMemory) ns d t = (s : State) × (onward s ≡ t)
+
+-- the same of a turn that may add names: they were ns, and are then ms
+abbrev pub Moves : Result Turn Halt → List (List ℕ) → List (List ℕ) → Draft → Move → Type 0
+Moves r ns ms d t = Steps r ms d t × Grows ns ms
+
+-- why a production is not read, by why its word at this place is not taken
+abbrev pub trouble_at : Halt → ℕ → Trouble
+trouble_at (Refused c) place = TextRefused (record { cause = c; place = place })
+trouble_at NoMemory place = OutOfMemory

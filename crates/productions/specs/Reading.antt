@@ -5,6 +5,7 @@ use Rattle.rules.specs.Attributes.{Declared}
 use Rattle.rules.specs.Rules.{Rule}
 use Rattle.languages.specs.Languages.{Takes, TakesNone, Broken, OneAnswer, longest, TooLong, comes_next}
 use Rattle.languages.specs.Machines.{Outcome, taken, stopped, place_of}
+use Rattle.languages.specs.Naming.{Grows}
 use Rattle.productions.specs.declared.draft.Draft.{Draft}
 use Rattle.productions.specs.declared.trouble.Trouble.{Trouble}
 use Rattle.productions.specs.declared.trouble.Trouble.TheVariants.{Refused, NoMemory}
@@ -41,6 +42,10 @@ abbrev pub Ran : ℕ → Result (Unit {0}) Trouble → List (List ℕ) → Draft
 Ran end (Ok _) ms d after o = o ≡ taken (rule_read (sofar_of ms d), ms) after
 Ran end (Err (Refused x)) ms d after o = (back : List Lexeme) × (o ≡ stopped x.cause back) × (x.place ≡ place_of end back)
 Ran end (Err NoMemory) ms d after o = Unit {0}
+
+-- and names were only added to ns
+abbrev pub Reads : ℕ → Result (Unit {0}) Trouble → List (List ℕ) → List (List ℕ) → Draft → List Lexeme → Outcome Asked → Type 0
+Reads end r ns ms d after o = Ran end r ms d after o × Grows ns ms
 
 -- reading a draft: the answer, and the names and the words left then
 abbrev pub Drafts : ℕ → List Declared → List Rule → List (List ℕ) → List Lexeme → Result Draft Trouble → List (List ℕ) → List Lexeme → Type 0

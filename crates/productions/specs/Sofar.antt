@@ -115,8 +115,11 @@ ordinal (pos n) = n
 ordinal (negsuc n) = 0
 
 -- a number that names no unnegated condition
+abbrev pub unnumbered : List Condition → ℤ → Option Fault
+unnumbered cs n = cond (names_condition cs (ordinal n)) None (Some no_such_condition)
+
 abbrev pub ordinal_fault : Sofar → ℤ → Option Fault
-ordinal_fault d n = cond (names_condition d.conditions (ordinal n)) None (Some no_such_condition)
+ordinal_fault d n = unnumbered d.conditions n
 
 -- ---- variables
 

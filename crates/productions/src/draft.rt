@@ -1,13 +1,16 @@
 // A production as far as it was read.
-ghost use Rattle.std.specs.Prelude.{◌≡◌, length};
+ghost use Rattle.std.specs.Prelude.{◌≡◌, ◌+◌, length};
 ghost use Rattle.rules.specs.Rules.{conditions_of, actions_of};
+ghost use Rattle.productions.specs.Sofar.{full};
+ghost use Rattle.productions.specs.Meaning.{Judges};
 
 use crate::variables::Variables;
+use languages::refusal::Cause;
 use rules::action::{Action, Setting};
 use rules::class::Class;
-use rules::condition::{Condition, FieldTest};
+use rules::condition::Condition;
 use rules::size::Size;
-use std::alloc::Global;
+use std::alloc::{AllocError, Global};
 use values::value::Value;
 
 // An action that gets settings, by the class of its element.
@@ -26,16 +29,55 @@ pub(crate) struct Draft {
     pub variables: Variables,
     pub actions: Vec<Action>,
     pub used: Size,
-    pub negated: bool,
-    pub class: Class,
-    pub tests: Vec<FieldTest>,
+    pub condition: Condition,
     pub choice: Vec<Value>,
     pub acting: Acting,
     pub settings: Vec<Setting>,
     pub heap: Global,
 }
 
+// A condition of which nothing is read.
+pub(crate) fn blank_condition(heap: Global) -> Condition {
+    Condition {
+        negated: false,
+        class: Class::new(0),
+        tests: Vec::new(heap),
+    }
+}
+
+// One more of what is counted, of which there may be this many.
+pub(crate) fn count(used: &mut usize, most: usize) -> Result<(), Cause>
+    ensures { Judges result (full most used.old) (λ _. used.new ≡ used.old + 1) }
+{
+    if *used >= most {
+        return Err(Cause::OverLimit);
+    }
+    *used += 1;
+    Ok(())
+}
+
 impl Draft {
+    // Nothing is read yet.
+    pub fn blank(heap: Global) -> Result<Draft, AllocError> {
+        let variables = Variables::new(heap)?;
+        Ok(Draft {
+            name: 0,
+            conditions: Vec::new(heap),
+            variables,
+            actions: Vec::new(heap),
+            used: Size {
+                tests: 0,
+                constants: 0,
+                settings: 0,
+            },
+            condition: blank_condition(heap),
+            choice: Vec::new(heap),
+            acting: Acting::Make(Class::new(0)),
+            settings: Vec::new(heap),
+            heap,
+        })
+    }
+
     // How many conditions were read whole.
     pub fn count_conditions(&self) -> usize
         ensures { result ≡ length (conditions_of self.now.conditions.items) }

@@ -1,6 +1,12 @@
 // What may come next in a production.
-use languages::refusal::Cause;
+ghost use Rattle.std.specs.Prelude.{◌≡◌};
+ghost use Rattle.productions.specs.declared.state.Halt.TheVariants.{Refused, NoMemory};
+ghost use Rattle.productions.specs.Meaning.{trouble_at};
+
+use crate::trouble::Trouble;
+use languages::refusal::{Cause, Refusal};
 use rules::place::Place;
+use std::alloc::AllocFailed;
 use words::token::Predicate;
 
 #[derive(Clone, Copy)]
@@ -51,11 +57,44 @@ pub(crate) enum State {
     Value(Place),
 }
 
-// What a word does: it leads on, it ends the production, it is refused, or memory ran out.
+// What a word does that is taken: it leads on, or it ends the production.
 #[derive(Clone, Copy)]
 pub(crate) enum Step {
     Onward(State),
     Whole,
-    Fails(Cause),
-    Starved,
+}
+
+// Why a word is not taken.
+#[derive(Clone, Copy)]
+pub(crate) enum Halt {
+    Refused(Cause),
+    NoMemory,
+}
+
+impl Halt {
+    // The same of a production, where the word stands at this place.
+    pub(crate) fn at(self, place: usize) -> Trouble
+        ensures { result ≡ trouble_at self place }
+    {
+        match self {
+            Halt::Refused(cause) => Trouble::Refused(Refusal { cause, place }),
+            Halt::NoMemory => Trouble::NoMemory,
+        }
+    }
+}
+
+impl From<Cause> for Halt {
+    ghost from_gives = { λ c h. h ≡ Refused c };
+
+    fn from(cause: Cause) -> Halt {
+        Halt::Refused(cause)
+    }
+}
+
+impl<T: Drop> From<AllocFailed<T>> for Halt {
+    ghost from_gives = { λ _ h. h ≡ NoMemory };
+
+    fn from(_failed: AllocFailed<T>) -> Halt {
+        Halt::NoMemory
+    }
 }

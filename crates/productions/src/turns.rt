@@ -2,57 +2,54 @@
 ghost use Rattle.words.specs.Kinds.{kind_of};
 ghost use Rattle.values.specs.Naming.{held};
 ghost use Rattle.rules.specs.Bases.{entering_classes, entering_rules};
-ghost use Rattle.languages.specs.Naming.{Grows};
 ghost use Rattle.languages.specs.Senses.{sense};
 ghost use Rattle.productions.specs.Machine.{turned};
-ghost use Rattle.productions.specs.Meaning.{state_of, Steps};
+ghost use Rattle.productions.specs.Meaning.{state_of, Moves};
 
-use crate::actions::{
-    at_action, at_actions, at_closing, at_make, at_modify, at_remove, at_setting, at_settings,
-    at_value,
-};
-use crate::conditions::{at_attribute, at_class, at_conditions, at_first, at_negated, at_pairs};
+use crate::actions::at_closing;
+use crate::conditions::at_pattern;
 use crate::draft::Draft;
-use crate::heads::{at_head, at_name, at_opening};
-use crate::state::{State, Step};
-use crate::tests::{at_choice, at_choices, at_operand, at_test};
+use crate::heads::{at_head, at_opening};
+use crate::state::{Halt, State, Step};
 use rules::base::Entering;
 use values::names::Names;
 use words::token::Token;
 
-// What a word does in a state.
-pub(crate) fn turn(
-    state: State,
-    draft: &mut Draft,
-    token: &Token,
-    names: &mut Names,
-    base: &Entering,
-) -> Step
-    ensures step { Steps result (held names.new) draft.new (turned (entering_classes base.now) (entering_rules base.now) (state_of (held names.old) draft.old state) (sense (kind_of token.now))) }
-    ensures names { Grows (held names.old) (held names.new) }
-{
-    match state {
-        State::Opening => at_opening(token),
-        State::Head => at_head(token),
-        State::Name => at_name(draft, token, names, base),
-        State::First => at_first(token),
-        State::Conditions => at_conditions(draft, token),
-        State::Negated => at_negated(token),
-        State::Class(negated) => at_class(draft, negated, token, names, base.classes()),
-        State::Pairs => at_pairs(draft, token),
-        State::Attribute => at_attribute(draft, token, names),
-        State::Test(field) => at_test(draft, field, token, names),
-        State::Operand(field, predicate) => at_operand(draft, field, predicate, token, names),
-        State::Choice(field) => at_choice(draft, field, token, names),
-        State::Choices(field) => at_choices(draft, field, token, names),
-        State::Actions => at_actions(draft, token),
-        State::Action => at_action(draft, token),
-        State::Make => at_make(draft, token, names, base.classes()),
-        State::Modify => at_modify(draft, token),
-        State::Remove => at_remove(draft, token),
-        State::Closing => at_closing(token),
-        State::Settings => at_settings(draft, token),
-        State::Setting => at_setting(draft, token, names),
-        State::Value(field) => at_value(draft, field, token, names),
+impl Draft {
+    // What a word does in a state. The states are data, and their meaning depends on the draft: so this is a match, and no table of
+    // closures.
+    pub(crate) fn turn(
+        &mut self,
+        state: State,
+        token: &Token,
+        names: &mut Names,
+        base: &Entering,
+    ) -> Result<Step, Halt>
+        ensures { Moves result (held names.old) (held names.new) self.new (turned (entering_classes base.now) (entering_rules base.now) (state_of (held names.old) self.old state) (sense (kind_of token.now))) }
+    {
+        match state {
+            State::Opening => at_opening(token),
+            State::Head => at_head(token),
+            State::Name => self.at_name(token, names, base),
+            State::First => at_pattern(false, token),
+            State::Conditions => self.at_conditions(token),
+            State::Negated => at_pattern(true, token),
+            State::Class(negated) => self.at_class(negated, token, names, base.classes()),
+            State::Pairs => self.at_pairs(token),
+            State::Attribute => self.at_attribute(token, names),
+            State::Test(field) => self.at_test(field, token, names),
+            State::Operand(field, predicate) => self.at_operand(field, predicate, token, names),
+            State::Choice(field) => self.at_choice(field, token, names),
+            State::Choices(field) => self.at_choices(field, token, names),
+            State::Actions => self.at_actions(token),
+            State::Action => self.at_action(token),
+            State::Make => self.at_make(token, names, base.classes()),
+            State::Modify => self.at_modify(token),
+            State::Remove => self.at_remove(token),
+            State::Closing => at_closing(token),
+            State::Settings => self.at_settings(token),
+            State::Setting => self.at_setting(token, names),
+            State::Value(field) => self.at_value(field, token, names),
+        }
     }
 }

@@ -1,6 +1,5 @@
 // The variables of a production, in the order in which they were first met.
-ghost use Rattle.std.specs.Prelude.{◌≤◌, vec_len, vec_capacity};
-
+use rows::few::Few;
 use values::name::Name;
 
 // How many variables a production may have.
@@ -14,12 +13,10 @@ pub(crate) struct Variable {
     pub condition: usize,
 }
 
-// At most 16 variables. The places are reserved once.
+// The variables that were met.
 #[derive(Drop)]
 pub(crate) struct Variables {
-    list: Vec<Variable>,
-    ghost reserved: { 16 ≤ vec_capacity list },
-    ghost few: { vec_len list ≤ 16 },
+    list: Few<Variable, MOST_VARIABLES>,
 }
 
 mod methods;

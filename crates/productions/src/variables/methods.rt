@@ -1,14 +1,16 @@
 // Meeting a variable in a condition, and looking one up for an action.
-ghost use Rattle.std.specs.Prelude.{◌≡◌, true, [], IfOk, None};
-ghost use Rattle.std.specs.Option.{option_map};
+ghost use Rattle.std.specs.Prelude.{◌≡◌, ◌<◌, true, [], length, IfOk, IfSome, None};
+ghost use Rattle.std.specs.Str.{bytes_eq};
+ghost use Rattle.values.specs.Firsts.{first_from};
+ghost use Rattle.values.specs.Spelling.{spelling};
 ghost use Rattle.productions.specs.Sofar.{first_met};
-ghost use Rattle.productions.specs.Meaning.{variables_of, number_of_place, Meets, Gives};
+ghost use Rattle.productions.specs.Meaning.{variables_of, Finds, Meets, Gives};
 
-use super::{MOST_VARIABLES, Variable, Variables};
+use super::{Variable, Variables};
 use languages::refusal::Cause;
+use rows::few::Few;
 use rules::place::Place;
 use std::alloc::{AllocError, Global};
-use values::bytes::is;
 use values::name::Name;
 
 impl Variables {
@@ -16,8 +18,9 @@ impl Variables {
     pub fn new(heap: Global) -> Result<Variables, AllocError>
         ensures { IfOk result (λ v. variables_of v ≡ []) }
     {
-        let list = Vec::with_capacity(heap, MOST_VARIABLES)?;
-        Ok(Variables { list })
+        Ok(Variables {
+            list: Few::new(heap)?,
+        })
     }
 
     // No variables again.
@@ -27,16 +30,29 @@ impl Variables {
         self.list.clear();
     }
 
-    // The number of a variable that was met.
-    fn find(&self, word: &[u8]) -> Option<Place>
-        ensures { option_map number_of_place result ≡ first_met (variables_of self.now) word.now }
+    // The place of a variable that was met.
+    fn place_of(&self, word: &[u8]) -> Option<usize>
+        ensures place { result ≡ first_from (λ v. bytes_eq (spelling v.name) word.now) 0 self.now.list }
+        ensures inside { IfSome result (λ place. place < length self.now.list) }
     {
-        for (i, variable) in self.list.iter().enumerate() {
-            if is(variable.name.as_bytes(), word) {
-                return Some(Place { number: i as u8 });
-            }
-        }
-        None
+        self.list
+            .as_slice()
+            .iter()
+            .position(|variable| variable.name.as_bytes() == word)
+    }
+
+    // A variable that was met, and its number.
+    fn find(&self, word: &[u8]) -> Option<(Place, Variable)>
+        ensures { Finds (variables_of self.now) word.now result }
+    {
+        let number = self.place_of(word)?;
+        let variable = self.list.as_slice()[number];
+        Some((
+            Place {
+                number: number as u8,
+            },
+            variable,
+        ))
     }
 
     // One variable more, which was not met before.
@@ -45,17 +61,13 @@ impl Variables {
         ensures { Meets (variables_of self.old) word.now true negated condition result (variables_of self.new) }
     {
         let number = self.list.len();
-        if number >= MOST_VARIABLES {
-            return Err(Cause::OverLimit);
-        }
-        let Some(name) = Name::new(word) else {
-            return Err(Cause::OverLimit);
-        };
-        self.list.push_reserved(Variable {
+        let name = Name::new(word).ok_or(Cause::OverLimit)?;
+        let variable = Variable {
             name,
             negated,
             condition,
-        });
+        };
+        self.list.push(variable).map_err(|_| Cause::OverLimit)?;
         Ok(Place {
             number: number as u8,
         })
@@ -71,36 +83,26 @@ impl Variables {
     ) -> Result<Place, Cause>
         ensures { Meets (variables_of self.old) word.now binds negated condition result (variables_of self.new) }
     {
-        match self.find(word) {
-            Some(place) => {
-                let met = self.list[place.number as usize];
-                if met.negated && met.condition != condition {
-                    return Err(Cause::WrongVariable);
-                }
-                Ok(place)
+        let Some((place, met)) = self.find(word) else {
+            if !binds {
+                return Err(Cause::WrongVariable);
             }
-            None => {
-                if !binds {
-                    return Err(Cause::WrongVariable);
-                }
-                self.add(word, negated, condition)
-            }
+            return self.add(word, negated, condition);
+        };
+        if met.negated && met.condition != condition {
+            return Err(Cause::WrongVariable);
         }
+        Ok(place)
     }
 
     // A variable in an action, which an unnegated condition must have.
     pub fn given(&self, word: &[u8]) -> Result<Place, Cause>
         ensures { Gives (variables_of self.now) word.now result }
     {
-        match self.find(word) {
-            Some(place) => {
-                let met = self.list[place.number as usize];
-                if met.negated {
-                    return Err(Cause::WrongVariable);
-                }
-                Ok(place)
-            }
-            None => Err(Cause::WrongVariable),
+        let (place, met) = self.find(word).ok_or(Cause::WrongVariable)?;
+        if met.negated {
+            return Err(Cause::WrongVariable);
         }
+        Ok(place)
     }
 }

@@ -10,23 +10,17 @@ use Rattle.productions.proofs.Rests.{takes}
 use Rattle.productions.proofs.Answering.{not_drafted}
 use Rattle.productions.proofs.read.read_draft.Goals as goal
 
-pub returns-in-Ok-read_words : goal.returns-in-Ok-read_words
-returns-in-Ok-read_words c =
+pub returns-clause-drafts : goal.returns-clause-drafts
+returns-clause-drafts c =
     let base = c.args.base.now in
-    let l = c.read_words.new in
-    record {
-      drafts = takes (entering_classes base) (entering_rules base) (held c.args.names.now) (rest c.args.words.now) (rule_read (sofar_of (held l.names) l.draft), held l.names) (rest l.words) c.in-Ok-read_words.ensures.ran;
-      text = c.in-Ok-read_words.ensures.text;
-    }
+    let l = c.read.new in
+    takes (entering_classes base) (entering_rules base) (held c.args.names.now) (rest c.args.words.now) (rule_read (sofar_of (held l.names) l.self), held l.names) (rest l.words) c.in_default.ensures.ran.0
 
-pub returns-in-Err : goal.returns-in-Err
-returns-in-Err c =
+pub returns-in-Err-clause-drafts : goal.returns-in-Err-clause-drafts
+returns-in-Err-clause-drafts c =
     let base = c.args.base.now in
     let names = c.args.names.now in
-    record {
-      drafts =
-          not_drafted (entering_classes base) (entering_rules base) (held names) (held c.read_words.new.names) (held c.keep.new.self) (rest c.args.words.now) (rest c.read_words.new.words) (rest c.args.words.now) (length (text_of c.args.words.now)) c.read_words.new.draft c.in-Err.trouble c.in-Err.ensures.ran
-          (kept-names (held names) (held c.read_words.new.names) (held c.keep.new.self) c.count-count.result (some_name names) c.count-count.ensures c.in-Err.ensures.names c.keep.ensures)
-          refl;
-      text = refl;
-    }
+    let l = c.read.new in
+    not_drafted (entering_classes base) (entering_rules base) (held names) (held l.names) (held c.keep.new.self) (rest c.args.words.now) (rest l.words) (rest c.args.words.now) (length (text_of c.args.words.now)) l.self c.in-Err.trouble c.in-Err.ensures.ran.0
+    (kept-names (held names) (held l.names) (held c.keep.new.self) c.count-count.result (some_name names) c.count-count.ensures c.in-Err.ensures.ran.1 c.keep.ensures)
+    refl

@@ -11,7 +11,7 @@ pub invariant_of-add : goal.invariant_of-add
 invariant_of-add c =
     let base = c.args.base.now in
     let ms = held c.read_draft.new.names in
-    let f = taken-fit (entering_classes base) (entering_rules base) (held c.args.names.now) ms (rest c.args.words.now) (rest c.read_draft.new.words) (rule_read (sofar_of ms c.in-Ok.draft)) (within-limits base) c.in-Ok.ensures.drafts in
+    let f = taken-fit (entering_classes base) (entering_rules base) (held c.args.names.now) ms (rest c.args.words.now) (rest c.read_draft.new.words) (rule_read (sofar_of ms c.in_ok-name.field-0)) (within-limits base) c.in_ok-name.ensures.drafts in
     record {
       matched = f.matched;
       tagged = f.tagged;
@@ -24,14 +24,9 @@ invariant_of-add c =
       bound = f.bound;
     }
 
-pub returns-in-Ok : goal.returns-in-Ok
-returns-in-Ok c =
+pub returns-clause-reads : goal.returns-clause-reads
+returns-clause-reads c =
     let base = c.args.base.now in
     let ms = held c.read_draft.new.names in
-    record {
-      reads =
-          production_taken (length (text_of c.args.words.now)) (entering_classes base) (entering_rules base) (entering_rules c.add.new.self) (held c.args.names.now) ms (rest c.args.words.now) (rest c.read_draft.new.words) (rule_read (sofar_of ms c.in-Ok.draft))
-          c.in_default.ensures (sym c.if-not-form_comes.ensures) (within-limits base) c.in-Ok.ensures.drafts c.add.ensures.after;
-      classes = c.add.ensures.classes;
-      text = c.in-Ok.ensures.text;
-    }
+    production_taken (length (text_of c.args.words.now)) (entering_classes base) (entering_rules base) (entering_rules c.add.new.self) (held c.args.names.now) ms (rest c.args.words.now) (rest c.read_draft.new.words) (rule_read (sofar_of ms c.in_ok-name.field-0))
+    c.in_ok-check_length.ensures (sym c.if-not-form_comes.ensures) (within-limits base) c.in_ok-name.ensures.drafts c.add.ensures.after

@@ -6,12 +6,12 @@ use Rattle.languages.specs.Machines.{run}
 use Rattle.languages.specs.Naming.{Grows}
 use Rattle.productions.specs.Machine.{at_opening, turned}
 use Rattle.productions.specs.Meaning.{state_of}
-use Rattle.productions.proofs.read.read_words.Given as goal
+use Rattle.productions.proofs.draft.Draft.read.Given as goal
 
 -- the words that are left decide
 abbrev pub invariant-loop-word : goal.invariant-loop-word
 invariant-loop-word l =
-    (run (turned (entering_classes l.base) (entering_rules l.base)) (state_of (held l.names) l.draft l.state) (rest l.words) ≡ run (turned (entering_classes l.base) (entering_rules l.base)) (at_opening (held l.initial.names)) (rest l.initial.words))
+    (run (turned (entering_classes l.base) (entering_rules l.base)) (state_of (held l.names) l.self l.state) (rest l.words) ≡ run (turned (entering_classes l.base) (entering_rules l.base)) (at_opening (held l.initial.names)) (rest l.initial.words))
     × Grows (held l.initial.names) (held l.names)
     × (text_of l.words ≡ text_of l.initial.words)
 
