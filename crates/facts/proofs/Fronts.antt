@@ -13,24 +13,6 @@ use Rattle.facts.specs.Model.{tag_at, value_at}
 pub front_length : (c : ℕ) (xs : List Fact) → length (take (min c 256) xs) ≡ min c (min (length xs) 256)
 front_length c xs = simp length-take (omega arith)
 
--- a time tag, within the first m places and past them
-pub tag_in : (m : ℕ) (xs : List Fact) (i : ℕ) (d : Fact) → i < length (take m xs) → (get_or xs i d).tag ≡ tag_at (take m xs) i
-tag_in m xs i d lt =
-    let le : i < m = omega (arith, length-take m xs) in
-    sym (get_or-map (λ f. f.tag) (take m xs) i d 0 lt ∙ ap (λ f. f.tag) (get_or-take m xs i d le))
-
-pub tag-out : (fs : List Fact) (i : ℕ) → length fs ≤ i → 0 ≡ tag_at fs i
-tag-out fs i le = sym (get_or_past (map (λ f. f.tag) fs) i 0 (simp length-map le))
-
--- a value, within the first m places and past them
-pub value_in : (m : ℕ) (xs : List Fact) (i j : ℕ) (d : Fact) → i < length (take m xs) → get_or (fields_of (get_or xs i d).element) j nil ≡ value_at (take m xs) i j
-value_in m xs i j d lt =
-    let le : i < m = omega (arith, length-take m xs) in
-    sym (ap (λ l. get_or l j nil) (get_or-map (λ f. fields_of f.element) (take m xs) i d [] lt ∙ ap (λ f. fields_of f.element) (get_or-take m xs i d le)))
-
-pub value_out : (fs : List Fact) (i j : ℕ) → length fs ≤ i → nil ≡ value_at fs i j
-value_out fs i j le = sym (ap (λ l. get_or l j nil) (get_or_past (map (λ f. fields_of f.element) fs) i [] (simp length-map le)))
-
 take-length : {X : Type 0} (m : ℕ) (xs : List X) → take (length (take m xs)) xs ≡ take m xs
 take-length m xs =
     ⊎_elim

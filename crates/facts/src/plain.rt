@@ -31,6 +31,13 @@ impl<'a> PlainMemory<'a> {
             last,
         }
     }
+
+    // The pairs, oldest first.
+    fn held(&self) -> &[Fact]
+        ensures { result.now ≡ plain_facts self.now }
+    {
+        &self.places[..self.count()]
+    }
 }
 
 impl Facts for PlainMemory<'_> {
@@ -41,20 +48,11 @@ impl Facts for PlainMemory<'_> {
     }
 
     fn tag_at(&self, place: usize) -> u32 {
-        if place < self.count() {
-            self.places[place].tag
-        } else {
-            0
-        }
+        self.held().get(place).map_or(0, |fact| fact.tag)
     }
 
     fn value_at(&self, place: usize, field: usize) -> Value {
-        if place < self.count() {
-            let element = self.places[place].element;
-            element.value(field)
-        } else {
-            NIL
-        }
+        self.held().get(place).map_or(NIL, |fact| fact.element.value(field))
     }
 }
 

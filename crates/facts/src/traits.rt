@@ -71,17 +71,11 @@ pub trait Memory: Facts {
 pub fn place_of<F: Facts>(facts: &F, tag: u32) -> Option<usize>
     ensures { result ≡ find_tag (F.Facts.facts facts.now) tag }
 {
-    for i in 0..facts.count() {
-        if facts.tag_at(i) == tag {
-            return Some(i);
-        }
-    }
-    None
+    (0..facts.count()).find(|place| facts.tag_at(*place) == tag)
 }
 
-// What the equations of the clauses above say of every memory. The number is of no use.
-pub fn memory_laws() -> u8
+// What the equations of the clauses above say of every memory.
+pub fn memory_laws()
     ensures { MemoryLaws }
 {
-    0
 }

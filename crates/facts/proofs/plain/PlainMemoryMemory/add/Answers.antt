@@ -5,15 +5,6 @@ use Rattle.facts.proofs.Fronts.{front_length, front-push, rest-push}
 use Rattle.facts.proofs.Changes.{added-answer, added-after}
 use Rattle.facts.proofs.plain.PlainMemoryMemory.add.Goals as goal
 
-pub offset_bounds-self-count : goal.offset_bounds-self-count
-offset_bounds-self-count c = let m = c.args.self.now in omega (arith, front_length m.count m.places.now)
-
-pub bounds-self-count : goal.bounds-self-count
-bounds-self-count c = let m = c.args.self.now in omega (arith, front_length m.count m.places.now)
-
-pub overflow_add-self : goal.overflow_add-self
-overflow_add-self c = let m = c.args.self.now in omega (arith, front_length m.count m.places.now)
-
 pub returns : goal.returns
 returns c =
     let s = c.args.self.now in

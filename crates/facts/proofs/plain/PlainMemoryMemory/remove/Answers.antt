@@ -17,18 +17,15 @@ overflow_add-place c =
     let s = c.args.self.now in
     omega (arith, place_in s.count s.places.now c.args.tag c.in-Some.place c.in-Some.ensures)
 
-pub copy_within-requires : goal.copy_within-requires
-copy_within-requires c =
+pub copy_within-requires-clause-start_le_end : goal.copy_within-requires-clause-start_le_end
+copy_within-requires-clause-start_le_end c =
     let s = c.args.self.now in
-    let long = front_length s.count s.places.now in
-    let lt = place_in s.count s.places.now c.args.tag c.in-Some.place c.in-Some.ensures in
-    record { start_le_end = omega arith; in_bounds = omega arith; dest_in_bounds = omega arith; not_exhausted = tt }
+    omega (arith, front_length s.count s.places.now, place_in s.count s.places.now c.args.tag c.in-Some.place c.in-Some.ensures)
 
-pub overflow_sub-self : goal.overflow_sub-self
-overflow_sub-self c =
+pub copy_within-requires-clause-dest_in_bounds : goal.copy_within-requires-clause-dest_in_bounds
+copy_within-requires-clause-dest_in_bounds c =
     let s = c.args.self.now in
-    let long = front_length s.count s.places.now in
-    omega (arith, place_in s.count s.places.now c.args.tag c.in-Some.place c.in-Some.ensures)
+    omega (arith, front_length s.count s.places.now, place_in s.count s.places.now c.args.tag c.in-Some.place c.in-Some.ensures)
 
 pub returns-in-Some : goal.returns-in-Some
 returns-in-Some c =
