@@ -1,13 +1,11 @@
 -- The first places of a list of pairs. Assumes nothing.
-use Rattle.std.proofs.Common.{◌≡◌, ℕ, ◌+◌, ◌-◌, ◌<◌, ◌≤◌, min, List, [], ◌∷◌, ◌++◌, map, length, get_or, take, drop, set, sym, ap, ◌∙◌, ⊎_elim, add-one, arith}
+use Rattle.std.proofs.Common.{◌≡◌, ℕ, ◌+◌, ◌-◌, ◌<◌, ◌≤◌, min, List, [], ◌∷◌, ◌++◌, length, take, drop, set, sym, ap, ◌∙◌, ⊎_elim, add-one, arith}
 use lib.Seq.{paste}
 use Rattle.std.specs.List.{remove}
-use Rattle.std.proofs.lemmas.List.{length-take, length-map, length-take-le, length-drop, length-set, get_or-map, get_or-take, get_or_past, take_more_set, take-take, take_all, drop-take, drop-set-lt}
+use Rattle.std.proofs.lemmas.List.{length-take, length-take-le, length-drop, length-set, take_more_set, take-take, take_all, drop-take, drop-set-lt}
 use Rattle.std.proofs.lemmas.List.Edits.{take-paste, drop-paste, length-paste}
 use Rattle.std.proofs.lemmas.Bool.{cases_lt}
-use Rattle.values.specs.Elements.{nil, fields_of}
 use Rattle.facts.specs.declared.fact.Fact.{Fact}
-use Rattle.facts.specs.Model.{tag_at, value_at}
 
 -- how many pairs stand in the first places
 pub front_length : (c : ℕ) (xs : List Fact) → length (take (min c 256) xs) ≡ min c (min (length xs) 256)

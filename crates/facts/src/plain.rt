@@ -9,7 +9,7 @@ use crate::traits::{Facts, LAST_TAG, MOST_ELEMENTS, Memory, place_of};
 use values::element::Element;
 use values::value::{NIL, Value};
 
-// The pairs stand in the first `count` places.
+// The pairs stand in the first `count` places, which somebody lends: a memory allocates nothing.
 #[derive(Drop)]
 pub struct PlainMemory<'a> {
     places: &'a mut [Fact],
@@ -52,7 +52,9 @@ impl Facts for PlainMemory<'_> {
     }
 
     fn value_at(&self, place: usize, field: usize) -> Value {
-        self.held().get(place).map_or(NIL, |fact| fact.element.value(field))
+        self.held()
+            .get(place)
+            .map_or(NIL, |fact| fact.element.value(field))
     }
 }
 
@@ -100,14 +102,10 @@ impl Memory for PlainMemory<'_> {
         ensures rest { RestKept self.old self.new }
     {
         let count = self.count();
-        match place_of(self, tag) {
-            Some(place) => {
-                self.places.copy_within(place + 1..count, place);
-                self.count = count - 1;
-                Ok(())
-            }
-            None => Err(MemoryRefusal::NoSuchTag),
-        }
+        let place = place_of(self, tag).ok_or(MemoryRefusal::NoSuchTag)?;
+        self.places.copy_within(place + 1..count, place);
+        self.count = count - 1;
+        Ok(())
     }
 
     fn clear(&mut self)
