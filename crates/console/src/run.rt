@@ -15,7 +15,7 @@ use facts::fact::Fact;
 use facts::plain::PlainMemory;
 use facts::traits::{MOST_ELEMENTS, Memory};
 use reader::read::{read_command, read_declaration};
-use reader::refusal::Refusal;
+use languages::refusal::Refusal;
 use rules::base::{Declaring, Sealed};
 use std::alloc::{AllocError, Global};
 use values::element::Element;
