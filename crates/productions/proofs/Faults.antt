@@ -6,11 +6,12 @@ use Rattle.languages.specs.Refusals.{Fault, over_limit}
 use Rattle.languages.specs.Scripts.{or_fault}
 use Rattle.productions.specs.Sofar.{full}
 
-pub no_fault : (b : Bool) (f : Fault) (o : Option Fault) → cond b (Some f) o ≡ None → (b ≡ false) × (o ≡ None)
+-- a rule that is not broken, where its test says that it is, or that it is kept
+pub no_fault : {F : Type 0} (b : Bool) (f : F) (o : Option F) → cond b (Some f) o ≡ None → (b ≡ false) × (o ≡ None)
 no_fault true f o e = let z : ◌≡◌ {A = ℕ} 0 1 = cc in absurd (omega arith)
 no_fault false f o e = (refl, e)
 
-pub no_lack : (b : Bool) (f : Fault) (o : Option Fault) → cond b o (Some f) ≡ None → (b ≡ true) × (o ≡ None)
+pub no_lack : {F : Type 0} (b : Bool) (f : F) (o : Option F) → cond b o (Some f) ≡ None → (b ≡ true) × (o ≡ None)
 no_lack true f o e = (refl, e)
 no_lack false f o e = let z : ◌≡◌ {A = ℕ} 0 1 = cc in absurd (omega arith)
 

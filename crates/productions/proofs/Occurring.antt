@@ -1,20 +1,22 @@
 -- The variables of a production one after the other, and where each occurs first. Assumes nothing.
-use Rattle.std.proofs.Common.{◌≡◌, ℕ, zero, suc, ◌+◌, ◌<◌, Bool, true, false, cond, not, ◌&&◌, eqb, leb, List, [], ◌∷◌, ◌++◌, length, get_or, is_some, Some, None, Option, sym, refl, ap, ◌∙◌, subst, arith, eq-eqb, eqb-true, leb-false}
+use Rattle.std.proofs.Common.{◌≡◌, ℕ, zero, suc, ◌+◌, ◌<◌, Bool, true, false, cond, not, ◌&&◌, eqb, leb, List, [], ◌∷◌, ◌++◌, length, get_or, is_some, Some, None, Option, sym, refl, ap, ◌∙◌, subst, arith, eq-eqb, eqb-true, leb-false, ltb-false}
 use borrow.Author.Tests.{lt-leb, not-false}
 use Rattle.std.proofs.lemmas.Slice.Eq.{bytes_eq-Decides}
 use Rattle.std.proofs.lemmas.List.{length_push}
 use Rattle.std.proofs.lemmas.Bool.{or_parts, or_from, cond-true, cond-false, not_from_true}
-use Rattle.std.specs.List.{find, filter}
+use Rattle.std.specs.List.{find, filter, position_or_len, slice_get}
 use Rattle.std.specs.Option.{option_or}
-use Rattle.std.proofs.lemmas.List.Folds.{find-append}
+use Rattle.std.proofs.lemmas.List.Folds.{find-append, find_at}
+use Rattle.std.proofs.lemmas.Iterator.Adapters.{position_from-zero}
+use Rattle.std.proofs.lemmas.Option.{cond_some, slice_get-get_or, slice_get_past}
 use Rattle.std.proofs.lemmas.List.Elements.{filter_agree}
 use Rattle.std.specs.Str.{bytes_eq}
-use Rattle.values.specs.Firsts.{first_from}
 use Rattle.values.specs.Spelling.{nameable}
 use Rattle.languages.specs.Refusals.{wrong_variable, over_limit}
 use Rattle.productions.specs.Sofar.{Met, nobody, first_met, strayed, met_fault_among, unbound_among}
 use Rattle.productions.specs.Kept.{Every, Found, Occurrence, first_of, without, variables_in, MetRightly}
 use Rattle.productions.proofs.Faults.{no_fault, no_lack}
+use Rattle.productions.proofs.Bound.{met-place}
 use Rattle.productions.proofs.Owing.{Room, Mets, met_all, Usable, Iff}
 
 -- what is so of each
@@ -28,28 +30,16 @@ every_map (x ∷ xs) f h = (f x h.0, every_map xs f h.1)
 abbrev met_at : List Met → List ℕ → Option Met
 met_at vs w = find (λ v. bytes_eq v.word w) vs
 
-first-is : (vs : List Met) (w : List ℕ) (n i : ℕ) → first_from (λ v. bytes_eq v.word w) n vs ≡ Some i → (k : ℕ) × (i ≡ n + k) × (met_at vs w ≡ Some (get_or vs k nobody))
-first-is [] w n i = λ e. let z : ◌≡◌ {A = ℕ} 0 1 = cc in absurd (omega arith)
-first-is (v ∷ vs) w n i = go (bytes_eq v.word w) (first-is vs w (n + 1) i)
-  where
-    go : (b : Bool) → (first_from (λ x. bytes_eq x.word w) (n + 1) vs ≡ Some i → (k : ℕ) × (i ≡ n + 1 + k) × (met_at vs w ≡ Some (get_or vs k nobody))) → cond b (Some n) (first_from (λ x. bytes_eq x.word w) (n + 1) vs) ≡ Some i → (k : ℕ) × (i ≡ n + k) × (cond b (Some v) (met_at vs w) ≡ Some (get_or (v ∷ vs) k nobody))
-    go true f e = let q : n ≡ i = cc in (0, omega arith, refl)
-    go false f e = let g = f e in (suc g.0, omega (arith, g.1), g.2)
-
-first-none : (vs : List Met) (w : List ℕ) (n : ℕ) → first_from (λ v. bytes_eq v.word w) n vs ≡ None → met_at vs w ≡ None
-first-none [] w n = λ e. refl
-first-none (v ∷ vs) w n = go (bytes_eq v.word w) (first-none vs w (n + 1))
-  where
-    go : (b : Bool) → (first_from (λ x. bytes_eq x.word w) (n + 1) vs ≡ None → met_at vs w ≡ None) → cond b (Some n) (first_from (λ x. bytes_eq x.word w) (n + 1) vs) ≡ None → cond b (Some v) (met_at vs w) ≡ None
-    go true f e = let z : ◌≡◌ {A = ℕ} 0 1 = cc in absurd (omega arith)
-    go false f e = f e
-
--- one that has a number
+-- one that has a number, and one that has none
 met-is : (vs : List Met) (w : List ℕ) (i : ℕ) → first_met vs w ≡ Some i → met_at vs w ≡ Some (get_or vs i nobody)
 met-is vs w i e =
-    let f = first-is vs w 0 i e in
-    let q : f.0 ≡ i = omega (arith, f.1) in
-    f.2 ∙ ap (λ k. Some (get_or vs k nobody)) q
+    let p : Met → Bool = λ v. bytes_eq v.word w in
+    find_at p vs ∙ ap (slice_get vs) (cond_some _ (position_or_len p vs) i (position_from-zero p vs ∙ e)).1 ∙ slice_get-get_or vs i nobody (met-place vs w i e)
+
+met-none : (vs : List Met) (w : List ℕ) → first_met vs w ≡ None → met_at vs w ≡ None
+met-none vs w e =
+    let p : Met → Bool = λ v. bytes_eq v.word w in
+    find_at p vs ∙ slice_get_past vs (position_or_len p vs) (ltb-false _ _ (no_fault _ (position_or_len p vs) None (position_from-zero p vs ∙ e)).0)
 
 met-more : (vs : List Met) (m : Met) (w : List ℕ) → met_at (vs ++ m ∷ []) w ≡ option_or (met_at vs w) (cond (bytes_eq m.word w) (Some m) None)
 met-more vs m w = find-append (λ v. bytes_eq v.word w) vs (m ∷ [])
@@ -166,7 +156,7 @@ right (o ∷ os) vs h = go (first_met vs o.word) refl h.0 h.1 (λ us. right os u
   where
     go : (a : Option ℕ) → first_met vs o.word ≡ a → met_fault_among vs o.condition o.binds o.word a ≡ None → Mets (cond (is_some a) vs (vs ++ met_as o ∷ [])) os → ((us : List Met) → Mets us os → Right us os) → Right vs (o ∷ os)
     go None e f g again =
-        let q = first-none vs o.word 0 e in
+        let q = met-none vs o.word e in
         let b = no_lack o.binds wrong_variable _ f in
         let p = or_parts (leb 16 (length vs)) (not (nameable o.word)) (no_fault _ over_limit None b.1).0 in
         let room = leb-false 16 (length vs) p.0 in
@@ -205,7 +195,7 @@ mets (o ∷ os) vs r = go (first_met vs o.word) refl (λ us. mets os us)
   where
     go : (a : Option ℕ) → first_met vs o.word ≡ a → ((us : List Met) → Right us os → Mets us os) → (met_fault_among vs o.condition o.binds o.word a ≡ None) × Mets (cond (is_some a) vs (vs ++ met_as o ∷ [])) os
     go None e again =
-        let q = first-none vs o.word 0 e in
+        let q = met-none vs o.word e in
         let m : MetRightly o o = subst (Found (MetRightly o)) (late_self vs o os q) r.met.0 in
         let k = fresh_new vs o os q in
         let long = length_push vs (met_as o) in
@@ -249,7 +239,7 @@ usable [] vs w = go (first_met vs w) refl
   where
     go : (a : Option ℕ) → first_met vs w ≡ a → Iff (unbound_among vs a ≡ None) (Positive (late (met_at vs w) None))
     go None e =
-        let q = first-none vs w 0 e in
+        let q = met-none vs w e in
         record {
           to = λ h. let z : ◌≡◌ {A = ℕ} 0 1 = cc in absurd (omega arith);
           back = λ h. absurd (subst (λ a. Positive (late a None)) q h);
