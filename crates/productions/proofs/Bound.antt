@@ -1,7 +1,7 @@
 -- The variables that a production has met: which have a value, and which a test may ask for. Assumes nothing.
 use Rattle.std.proofs.Common.{◌≡◌, ℕ, ◌+◌, ◌<◌, ◌≤◌, Bool, true, false, cond, not, ◌&&◌, eqb, List, [], ◌∷◌, ◌++◌, length, get_or, is_some, Some, None, Option, unwrap_or, sym, refl, ap, ◌∙◌, subst, ⊎_elim, arith, eqb-true}
 use borrow.Author.Tests.{not-false}
-use Rattle.std.proofs.lemmas.List.{get_or_append_left, get_or_push}
+use Rattle.std.proofs.lemmas.List.{get_or_append_left, get_or_push, length_push}
 use Rattle.std.proofs.lemmas.Bool.{cases_lt}
 use Rattle.std.specs.Str.{bytes_eq}
 use Rattle.words.specs.declared.token.Predicate.{Predicate}
@@ -11,20 +11,11 @@ use Rattle.rules.specs.Attributes.{Declared}
 use Rattle.rules.specs.Carried.{carried}
 use Rattle.rules.specs.Fitness.{has, term_variables, test_variables, test_met, fit_term, also_test, bound_after, bound_by}
 use Rattle.rules.specs.Rules.{Test, compared, Condition}
-use Rattle.languages.specs.Refusals.{Fault, wrong_variable}
+use Rattle.languages.specs.Refusals.{wrong_variable}
 use Rattle.productions.specs.Forms.{Operand, fixed, named}
 use Rattle.productions.specs.Sofar.{Met, Sofar, with_test, first_met, nobody, strayed, met_fault_among, unbound_among, term_for, operand_fault, after_operand, given_fault, binding}
-use Rattle.productions.proofs.Carrying.{carried-more, length_more, has_last, known_more, bound_more, bound_known}
-
--- ---- what no fault says
-
-pub no_fault : (b : Bool) (f : Fault) (o : Option Fault) → cond b (Some f) o ≡ None → (b ≡ false) × (o ≡ None)
-no_fault true f o e = let z : ◌≡◌ {A = ℕ} 0 1 = cc in absurd (omega arith)
-no_fault false f o e = (refl, e)
-
-pub no_lack : (b : Bool) (f : Fault) (o : Option Fault) → cond b o (Some f) ≡ None → (b ≡ true) × (o ≡ None)
-no_lack true f o e = (refl, e)
-no_lack false f o e = let z : ◌≡◌ {A = ℕ} 0 1 = cc in absurd (omega arith)
+use Rattle.productions.proofs.Faults.{no_fault}
+use Rattle.productions.proofs.Carrying.{carried-more, has_last, known_more, bound_more, bound_known}
 
 -- a variable that was found is one of those that were met
 pub met-place : (vs : List Met) (w : List ℕ) (i : ℕ) → first_met vs w ≡ Some i → i < length vs
@@ -56,7 +47,7 @@ known-test bs c vs f t k i h =
 -- a test with a variable that is met first there
 known-new : (bs : List Condition) (c : Condition) (vs : List Met) (w : List ℕ) (f : ℕ) (t : Test) → test_variables t ≡ length vs ∷ [] → Known bs c vs → Known bs (with_test c f t) (vs ++ record { word = w; negated = c.negated; condition = length bs } ∷ [])
 known-new bs c vs w f t e k i h =
-    let long : length (vs ++ v ∷ []) ≡ length vs + 1 = length_more vs v in
+    let long : length (vs ++ v ∷ []) ≡ length vs + 1 = length_push vs v in
     ⊎_elim
     (λ old. subst (Placed (length bs) bound known i) (sym (get_or_append_left vs (v ∷ []) nobody i old)) (known-test bs c vs f t k i old))
     (λ new.
@@ -138,7 +129,7 @@ known-none bs false k vs b i h =
 pub known-all : (bs : List Condition) (c : Condition) (vs : List Met) → Known bs c vs → Bound (bs ++ c ∷ []) vs
 known-all bs c vs k i h =
     let p = k i h in
-    let long : length (bs ++ c ∷ []) ≡ length bs + 1 = length_more bs c in
+    let long : length (bs ++ c ∷ []) ≡ length bs + 1 = length_push bs c in
     record { valued = λ e. ap (λ l. has l i) (carried-more bound_after [] bs c) ∙ p.valued e; past = omega arith }
 
 -- a variable of an action has a value

@@ -1,5 +1,5 @@
 -- One more at the end of a row: of tests, conditions, settings and actions. Assumes nothing.
-use Rattle.std.proofs.Common.{◌≡◌, ℕ, ◌+◌, Bool, true, false, cond, ◌&&◌, ◌||◌, eqb, List, [], ◌∷◌, ◌++◌, length, sym, refl, ap, ◌∙◌, arith, length-append, eq-eqb}
+use Rattle.std.proofs.Common.{◌≡◌, ℕ, ◌+◌, Bool, true, false, cond, ◌&&◌, ◌||◌, eqb, List, [], ◌∷◌, ◌++◌, length, sym, refl, ap, ◌∙◌, arith, eq-eqb}
 use mathlib.Core.Bool.{and-true, and_assoc, or_assoc}
 use Rattle.std.proofs.lemmas.Bool.{and_parts, and_from, or_left, or_right}
 use Rattle.rules.specs.Attributes.{Declared}
@@ -20,9 +20,6 @@ module _ {K X : Type 0} (more : K → X → K) where
   along_more ok k (y ∷ ys) x = ap (λ b. ok k y && b) (along_more ok (more k y) ys x) ∙ sym (and_assoc (ok k y) _ _)
 
 -- ---- counts
-
-pub length_more : {X : Type 0} (xs : List X) (x : X) → length (xs ++ x ∷ []) ≡ length xs + 1
-length_more xs x = length-append xs (x ∷ [])
 
 pub tests-more : (cs : List Condition) (c : Condition) → tests_in (cs ++ c ∷ []) ≡ tests_in cs + (1 + length c.tests)
 tests-more [] c = omega arith

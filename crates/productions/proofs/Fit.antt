@@ -1,6 +1,7 @@
 -- The rule that a production asks for, if nothing is wrong with its words, is fit and enters the base. Assumes nothing.
 use Rattle.std.proofs.Common.{◌≡◌, ℕ, ◌+◌, ◌<◌, ◌≤◌, Bool, true, false, cond, not, ◌||◌, eqb, ltb, leb, List, [], ◌∷◌, ◌++◌, length, is_some, Some, None, Ok, Option, unwrap_or, sym, refl, ap, ◌∙◌, subst, arith, ltb-false, le-ltb, le-leb, leb-false}
 use borrow.Author.Tests.{lt-leb}
+use Rattle.std.proofs.lemmas.List.{length_push}
 use Rattle.std.proofs.lemmas.Bool.{and_from, or_parts, or_from, cond-false}
 use Rattle.values.specs.declared.value.Value.{Value}
 use Rattle.values.specs.Naming.{number_of, answer_intern}
@@ -11,14 +12,15 @@ use Rattle.rules.specs.Carried.{carried}
 use Rattle.rules.specs.Fitness.{term_variables, test_variables, within, test_met, fit_test, also_test, fit_tests, bound_after, fit_condition, fit_conditions, unnegated, bound_by, fit_settings, names_condition, condition_class, fit_action, fit_actions}
 use Rattle.rules.specs.Rules.{Test, plain, compared, choice, FieldTest, Condition, Setting, Action, makes, modifies, removes, halts, Rule}
 use Rattle.rules.specs.Sizes.{Size, size, tests_in, test_constants, tests_constants, constants_in, settings_in, size_of, together, size_of_all, excessive}
-use Rattle.languages.specs.Refusals.{Fault, wrong_name, no_such_condition, over_limit}
-use Rattle.languages.specs.Scripts.{Script, or_fault, judged_in, asked_by, Faultless}
+use Rattle.languages.specs.Refusals.{wrong_name, no_such_condition, over_limit}
+use Rattle.languages.specs.Scripts.{Script, judged_in, asked_by, Faultless}
 use Rattle.languages.specs.Naming.{numbered, class_named, field_at, field_named, undeclared, lacking, value_fault, after_value, value_of}
 use Rattle.productions.specs.Forms.{Operand, fixed, named, Chosen, constant_in, TestForm, bare, under, one_of, PairForm, Pattern, ConditionForm, positive, negative, SettingForm, ActionForm, making, modifying, removing, halting, ProductionForm}
 use Rattle.productions.specs.Sofar.{Met, Sofar, with_names, with_used, with_variables, with_condition, with_action, one_test, one_constant, one_setting, with_test, rule_read, full, test_fault, rule_at, name_fault, ordinal, term_for, operand_fault, after_operand, with_variable, given_fault, Acting, on_make, on_modify, acting_class, action_with}
 use Rattle.productions.specs.Spelling.{Asked, value_script, settings_script, action_script, actions_script, choice_script, test_script, pairs_script, pattern_script, conditions_script, begun, production_script}
-use Rattle.productions.proofs.Carrying.{along_more, length_more, tests-more, constants-more, test_constants-more, settings-more, unnegated-more, fit_settings-more, fit_actions-more}
-use Rattle.productions.proofs.Bound.{no_fault, no_lack, Known, known-test, known-operand, met-operand, Bound, known-none, known-all, bound_operand}
+use Rattle.productions.proofs.Carrying.{along_more, tests-more, constants-more, test_constants-more, settings-more, unnegated-more, fit_settings-more, fit_actions-more}
+use Rattle.productions.proofs.Faults.{no_fault, no_lack, neither, room}
+use Rattle.productions.proofs.Bound.{Known, known-test, known-operand, met-operand, Bound, known-none, known-all, bound_operand}
 
 -- a rule that can be matched and fired, and for which the base has room
 pub record Fit (rs : List Rule) (r : Rule) : Type 0 where
@@ -35,14 +37,6 @@ pub record Fit (rs : List Rule) (r : Rule) : Type 0 where
   pub answered : answer_enter rs r ≡ Ok tt
 
 -- ---- what no fault says
-
-neither : (f g : Option Fault) → or_fault f g ≡ None → (f ≡ None) × (g ≡ None)
-neither None g e = (refl, e)
-neither (Some f) g e = let z : ◌≡◌ {A = ℕ} 0 1 = cc in absurd (omega arith)
-
--- there is room for one more
-room : (most n : ℕ) → full most n ≡ None → n < most
-room most n e = leb-false most n (no_fault (leb most n) over_limit None e).0
 
 -- an attribute that the class has is one of its fields
 field-within : (c : Declared) (ns : List (List ℕ)) (w : List ℕ) → lacking c ns w ≡ None → within c (field_named c ns w) ≡ true
@@ -182,7 +176,7 @@ module _ (cs : List Declared) (rs : List Rule) where
   -- one action more
   one-action : (d : Sofar) (ns : List (List ℕ)) (u : Size) (a : Action) → Doing rs d → length d.actions < 8 → fit_action d.conditions a ≡ true → Counted (size_of_all rs) u (tests_in d.conditions) (constants_in d.conditions) (settings_in (d.actions ++ a ∷ [])) → Doing rs (with_action (with_used (with_names d ns) u) a)
   one-action d ns u a g h f c =
-      let long = length_more d.actions a in
+      let long = length_push d.actions a in
       record {
         sound = g.sound;
         matched = g.matched;
@@ -212,7 +206,7 @@ module _ (cs : List Declared) (rs : List Rule) where
       let made : Setting = record { field = field; value = term_for d x.value } in
       value-fit d done field x.value (λ e more. settings_script cs rs e a more xs go)
       (λ g r ns.
-      let long = length_more done made in
+      let long = length_push done made in
       settings-fit (one_setting (with_names d ns)) a (done ++ made ∷ []) xs go t k s b
       (fit_settings-more (acting_class a) (bound_by d.conditions) done made f within (bound_operand d x.value b g))
       (setting-counted c r (omega arith))
@@ -260,7 +254,7 @@ module _ (cs : List Declared) (rs : List Rule) where
       Inside rs (with_used (with_variables (with_names d ns) vs) u) (with_test c f t)
   one-test d c f t ns vs u i w m k n =
       let made : FieldTest = record { field = f; test = t } in
-      let long = length_more c.tests made in
+      let long = length_push c.tests made in
       let more = test_constants-more c.tests made in
       record {
         sound = i.sound;
@@ -291,7 +285,7 @@ module _ (cs : List Declared) (rs : List Rule) where
   choice-fit d vs (w ∷ ws) go t k c after h =
       let n = room 256 d.used.constants (neither (value_fault d.names (constant_in w.word)) (full 256 d.used.constants) h.0).1 in
       let v = value_of d.names (constant_in w.word) in
-      let long = length_more vs v in
+      let long = length_push vs v in
       choice-fit (one_constant (with_names d (after_value d.names (constant_in w.word)))) (vs ++ v ∷ []) ws go t k
       (constant-counted c n (omega arith))
       after
@@ -320,7 +314,7 @@ module _ (cs : List Declared) (rs : List Rule) where
   -- a condition that is at its end
   one-condition : (d : Sofar) (c : Condition) → Inside rs d c → Between rs (with_condition d c) × (1 ≤ length (unnegated (d.conditions ++ c ∷ [])))
   one-condition d c i =
-      let long = length_more d.conditions c in
+      let long = length_push d.conditions c in
       let tags = unnegated-more d.conditions c in
       let s = i.sound in
       let tests = tests-more d.conditions c in

@@ -11,7 +11,7 @@ use Rattle.values.proofs.Finding.{found}
 use Rattle.values.proofs.Numbering.{kept_number, own_number}
 use Rattle.rules.specs.Attributes.{Declared, new_class}
 use Rattle.rules.specs.Declarations.{find_class}
-use Rattle.languages.specs.Naming.{unnameable, class_at, field_at, class_named, Constant, symbolic, numeric, after_value}
+use Rattle.languages.specs.Naming.{Grows, unnameable, class_at, field_at, class_named, Constant, symbolic, numeric, after_value}
 use Rattle.productions.specs.Kept.{Every, Numbered, Known}
 use Rattle.productions.specs.Said.{grown}
 
@@ -63,29 +63,26 @@ named-known : (cs : List Declared) (n : ℕ) (o : Option ℕ) → Every (Numbere
 named-known cs n None k = tt
 named-known cs n (Some i) k = found-known cs n i k
 
--- the names ns, and more behind them
-abbrev pub Behind : List (List ℕ) → List (List ℕ) → Type 0
-Behind ns m = (more : List (List ℕ)) × (m ≡ ns ++ more)
-
-pub behind_none : (ns : List (List ℕ)) → Behind ns ns
+-- names that are added stand behind the others
+pub behind_none : (ns : List (List ℕ)) → Grows ns ns
 behind_none ns = ([], sym (append-nil ns))
 
-pub behind_one : (ns m : List (List ℕ)) (w : List ℕ) → Behind ns m → Behind ns (after_intern m w)
+pub behind_one : (ns m : List (List ℕ)) (w : List ℕ) → Grows ns m → Grows ns (after_intern m w)
 behind_one ns m w (more, e) = go (is_some (number_of m w)) (admits m w)
   where
-    go : (b d : Bool) → Behind ns (cond b m (cond d (m ++ w ∷ []) m))
+    go : (b d : Bool) → Grows ns (cond b m (cond d (m ++ w ∷ []) m))
     go true d = (more, e)
     go false true = (more ++ w ∷ [], ap (λ l. l ++ w ∷ []) e ∙ append_assoc ns more (w ∷ []))
     go false false = (more, e)
 
-pub behind_value : (ns m : List (List ℕ)) (c : Constant) → Behind ns m → Behind ns (after_value m c)
+pub behind_value : (ns m : List (List ℕ)) (c : Constant) → Grows ns m → Grows ns (after_value m c)
 behind_value ns m (symbolic w) b = behind_one ns m w b
 behind_value ns m (numeric n) b = b
 
-pub same_class : (cs : List Declared) (ns m : List (List ℕ)) (w : List ℕ) → Known cs ns → Behind ns m → class_at cs (number_of m w) ≡ class_at cs (number_of ns w)
+pub same_class : (cs : List Declared) (ns m : List (List ℕ)) (w : List ℕ) → Known cs ns → Grows ns m → class_at cs (number_of m w) ≡ class_at cs (number_of ns w)
 same_class cs ns m w k (more, e) = ap (λ l. class_at cs (number_of l w)) e ∙ same_answer (class_at cs) ns more w refl (λ j h. find_late cs (length ns) j k h)
 
-pub same_field : (cs : List Declared) (ns m : List (List ℕ)) (c w : List ℕ) → Known cs ns → Behind ns m → field_at (class_named cs ns c) (number_of m w) ≡ field_at (class_named cs ns c) (number_of ns w)
+pub same_field : (cs : List Declared) (ns m : List (List ℕ)) (c w : List ℕ) → Known cs ns → Grows ns m → field_at (class_named cs ns c) (number_of m w) ≡ field_at (class_named cs ns c) (number_of ns w)
 same_field cs ns m c w k (more, e) =
     ap (λ l. field_at (class_named cs ns c) (number_of l w)) e
     ∙ same_answer (field_at (class_named cs ns c)) ns more w refl (λ j h. field-late (class_named cs ns c).attributes (length ns) j 1 (named-known cs (length ns) (number_of ns c) k) h)

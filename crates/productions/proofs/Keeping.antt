@@ -14,7 +14,7 @@ use Rattle.productions.specs.Sofar.{rule_at}
 use Rattle.productions.specs.Spelling.{production_script}
 use Rattle.productions.specs.Said.{production_symbols}
 use Rattle.productions.specs.Kept.{Known, contents, unnegated_classes, variables_in, Keeps, RulesKept}
-use Rattle.productions.proofs.Bound.{no_fault}
+use Rattle.productions.proofs.Faults.{no_fault}
 use Rattle.productions.proofs.Growing.{named-all, all_nameable}
 use Rattle.productions.proofs.Owing.{all_room, room_all, production_holds}
 use Rattle.productions.proofs.Occurring.{every_map, all_right, all_usable}

@@ -1,5 +1,6 @@
 pub mod Rests
 pub mod Carrying
+pub mod Faults
 pub mod Bound
 pub mod Fit
 pub mod Drafting

@@ -1,16 +1,22 @@
 -- The variables of a production one after the other, and where each occurs first. Assumes nothing.
-use Rattle.std.proofs.Common.{◌≡◌, ℕ, zero, suc, ◌+◌, ◌<◌, Bool, true, false, cond, not, ◌&&◌, eqb, leb, List, [], ◌∷◌, ◌++◌, length, get_or, is_some, Some, None, Option, sym, refl, ap, ◌∙◌, subst, arith, eq-eqb, eqb-true, leb-false}
+use Rattle.std.proofs.Common.{◌≡◌, ℕ, zero, suc, ◌+◌, ◌<◌, Bool, true, false, cond, not, ◌&&◌, eqb, leb, List, [], ◌∷◌, ◌++◌, length, get_or, is_some, Some, None, Option, sym, refl, ap, ◌∙◌, subst, arith, eq-eqb, eqb-true, leb-false, ltb-false}
 use borrow.Author.Tests.{lt-leb, not-false}
 use Rattle.std.proofs.lemmas.Slice.Eq.{bytes_eq-Decides}
+use Rattle.std.proofs.lemmas.List.{length_push}
 use Rattle.std.proofs.lemmas.Bool.{or_parts, or_from, cond-true, cond-false, not_from_true}
+use Rattle.std.specs.List.{find, filter, position_or_len, slice_get}
+use Rattle.std.specs.Option.{option_or}
+use Rattle.std.proofs.lemmas.List.Folds.{find-append, find_at}
+use Rattle.std.proofs.lemmas.Iterator.Adapters.{position_from-zero}
+use Rattle.std.proofs.lemmas.Option.{cond_some, slice_get-get_or, slice_get_past}
+use Rattle.std.proofs.lemmas.List.Elements.{filter_agree}
 use Rattle.std.specs.Str.{bytes_eq}
-use Rattle.values.specs.Firsts.{first_from}
 use Rattle.values.specs.Spelling.{nameable}
 use Rattle.languages.specs.Refusals.{wrong_variable, over_limit}
 use Rattle.productions.specs.Sofar.{Met, nobody, first_met, strayed, met_fault_among, unbound_among}
 use Rattle.productions.specs.Kept.{Every, Found, Occurrence, first_of, without, variables_in, MetRightly}
-use Rattle.productions.proofs.Bound.{no_fault, no_lack}
-use Rattle.productions.proofs.Carrying.{length_more}
+use Rattle.productions.proofs.Faults.{no_fault, no_lack}
+use Rattle.productions.proofs.Bound.{met-place}
 use Rattle.productions.proofs.Owing.{Room, Mets, met_all, Usable, Iff}
 
 -- what is so of each
@@ -22,44 +28,21 @@ every_map (x ∷ xs) f h = (f x h.0, every_map xs f h.1)
 
 -- a variable as it was met
 abbrev met_at : List Met → List ℕ → Option Met
-met_at [] w = None
-met_at (v ∷ vs) w = cond (bytes_eq v.word w) (Some v) (met_at vs w)
+met_at vs w = find (λ v. bytes_eq v.word w) vs
 
-first-is : (vs : List Met) (w : List ℕ) (n i : ℕ) → first_from (λ v. bytes_eq v.word w) n vs ≡ Some i → (k : ℕ) × (i ≡ n + k) × (met_at vs w ≡ Some (get_or vs k nobody))
-first-is [] w n i = λ e. let z : ◌≡◌ {A = ℕ} 0 1 = cc in absurd (omega arith)
-first-is (v ∷ vs) w n i = go (bytes_eq v.word w) (first-is vs w (n + 1) i)
-  where
-    go : (b : Bool) → (first_from (λ x. bytes_eq x.word w) (n + 1) vs ≡ Some i → (k : ℕ) × (i ≡ n + 1 + k) × (met_at vs w ≡ Some (get_or vs k nobody))) → cond b (Some n) (first_from (λ x. bytes_eq x.word w) (n + 1) vs) ≡ Some i → (k : ℕ) × (i ≡ n + k) × (cond b (Some v) (met_at vs w) ≡ Some (get_or (v ∷ vs) k nobody))
-    go true f e = let q : n ≡ i = cc in (0, omega arith, refl)
-    go false f e = let g = f e in (suc g.0, omega (arith, g.1), g.2)
-
-first-none : (vs : List Met) (w : List ℕ) (n : ℕ) → first_from (λ v. bytes_eq v.word w) n vs ≡ None → met_at vs w ≡ None
-first-none [] w n = λ e. refl
-first-none (v ∷ vs) w n = go (bytes_eq v.word w) (first-none vs w (n + 1))
-  where
-    go : (b : Bool) → (first_from (λ x. bytes_eq x.word w) (n + 1) vs ≡ None → met_at vs w ≡ None) → cond b (Some n) (first_from (λ x. bytes_eq x.word w) (n + 1) vs) ≡ None → cond b (Some v) (met_at vs w) ≡ None
-    go true f e = let z : ◌≡◌ {A = ℕ} 0 1 = cc in absurd (omega arith)
-    go false f e = f e
-
--- one that has a number
+-- one that has a number, and one that has none
 met-is : (vs : List Met) (w : List ℕ) (i : ℕ) → first_met vs w ≡ Some i → met_at vs w ≡ Some (get_or vs i nobody)
 met-is vs w i e =
-    let f = first-is vs w 0 i e in
-    let q : f.0 ≡ i = omega (arith, f.1) in
-    f.2 ∙ ap (λ k. Some (get_or vs k nobody)) q
+    let p : Met → Bool = λ v. bytes_eq v.word w in
+    find_at p vs ∙ ap (slice_get vs) (cond_some _ (position_or_len p vs) i (position_from-zero p vs ∙ e)).1 ∙ slice_get-get_or vs i nobody (met-place vs w i e)
 
--- one of two, the first where it is there
-abbrev or_met : Option Met → Option Met → Option Met
-or_met None o = o
-or_met (Some v) o = Some v
+met-none : (vs : List Met) (w : List ℕ) → first_met vs w ≡ None → met_at vs w ≡ None
+met-none vs w e =
+    let p : Met → Bool = λ v. bytes_eq v.word w in
+    find_at p vs ∙ slice_get_past vs (position_or_len p vs) (ltb-false _ _ (no_fault _ (position_or_len p vs) None (position_from-zero p vs ∙ e)).0)
 
-met-more : (vs : List Met) (m : Met) (w : List ℕ) → met_at (vs ++ m ∷ []) w ≡ or_met (met_at vs w) (cond (bytes_eq m.word w) (Some m) None)
-met-more [] m w = refl
-met-more (v ∷ vs) m w = go (bytes_eq v.word w) (met-more vs m w)
-  where
-    go : (b : Bool) → met_at (vs ++ m ∷ []) w ≡ or_met (met_at vs w) (cond (bytes_eq m.word w) (Some m) None) → cond b (Some v) (met_at (vs ++ m ∷ []) w) ≡ or_met (cond b (Some v) (met_at vs w)) (cond (bytes_eq m.word w) (Some m) None)
-    go true e = refl
-    go false e = e
+met-more : (vs : List Met) (m : Met) (w : List ℕ) → met_at (vs ++ m ∷ []) w ≡ option_or (met_at vs w) (cond (bytes_eq m.word w) (Some m) None)
+met-more vs m w = find-append (λ v. bytes_eq v.word w) vs (m ∷ [])
 
 -- ---- the first occurrence, among the variables that were met or else behind them
 
@@ -88,7 +71,7 @@ late_old vs o os v w q = go (bytes_eq o.word w) refl
 late_new : (vs : List Met) (o : Occurrence) (os : List Occurrence) (w : List ℕ) → late (met_at (vs ++ met_as o ∷ []) w) (first_of os w) ≡ late (met_at vs w) (cond (bytes_eq o.word w) (Some (occurred (met_as o))) (first_of os w))
 late_new vs o os w = ap (λ a. late a (first_of os w)) (met-more vs (met_as o) w) ∙ go (met_at vs w) (bytes_eq o.word w)
   where
-    go : (a : Option Met) (b : Bool) → late (or_met a (cond b (Some (met_as o)) None)) (first_of os w) ≡ late a (cond b (Some (occurred (met_as o))) (first_of os w))
+    go : (a : Option Met) (b : Bool) → late (option_or a (cond b (Some (met_as o)) None)) (first_of os w) ≡ late a (cond b (Some (occurred (met_as o))) (first_of os w))
     go (Some v) b = refl
     go None true = refl
     go None false = refl
@@ -104,26 +87,17 @@ late_self vs o os q = ap (λ a. late a (first_of (o ∷ os) o.word)) q ∙ cond-
 
 -- ---- how many there are
 
--- those of a row that pass
-abbrev keep : (List ℕ → Bool) → List (List ℕ) → List (List ℕ)
-keep t [] = []
-keep t (w ∷ ws) = cond (t w) (w ∷ keep t ws) (keep t ws)
-
-keep_without : (t : List ℕ → Bool) (w : List ℕ) (ws : List (List ℕ)) → keep t (without w ws) ≡ keep (λ x. not (bytes_eq w x) && t x) ws
-keep_without t w [] = refl
-keep_without t w (v ∷ ws) = go (bytes_eq w v) (keep_without t w ws)
+filter-without : (t : List ℕ → Bool) (w : List ℕ) (ws : List (List ℕ)) → filter t (without w ws) ≡ filter (λ x. not (bytes_eq w x) && t x) ws
+filter-without t w [] = refl
+filter-without t w (v ∷ ws) = go (bytes_eq w v) (filter-without t w ws)
   where
-    go : (b : Bool) → keep t (without w ws) ≡ keep (λ x. not (bytes_eq w x) && t x) ws → keep t (cond b (without w ws) (v ∷ without w ws)) ≡ cond (not b && t v) (v ∷ keep (λ x. not (bytes_eq w x) && t x) ws) (keep (λ x. not (bytes_eq w x) && t x) ws)
+    go : (b : Bool) → filter t (without w ws) ≡ filter (λ x. not (bytes_eq w x) && t x) ws → filter t (cond b (without w ws) (v ∷ without w ws)) ≡ cond (not b && t v) (v ∷ filter (λ x. not (bytes_eq w x) && t x) ws) (filter (λ x. not (bytes_eq w x) && t x) ws)
     go true e = e
     go false e = ap (λ l. cond (t v) (v ∷ l) l) e
 
-keep_same : (t u : List ℕ → Bool) (ws : List (List ℕ)) → ((x : List ℕ) → t x ≡ u x) → keep t ws ≡ keep u ws
-keep_same t u [] f = refl
-keep_same t u (w ∷ ws) f = ap (λ b. cond b (w ∷ keep t ws) (keep t ws)) (f w) ∙ ap (λ l. cond (u w) (w ∷ l) l) (keep_same t u ws f)
-
-keep_all : (ws : List (List ℕ)) → keep (λ x. true) ws ≡ ws
-keep_all [] = refl
-keep_all (w ∷ ws) = ap (λ l. w ∷ l) (keep_all ws)
+filter-everything : (ws : List (List ℕ)) → filter (λ x. true) ws ≡ ws
+filter-everything [] = refl
+filter-everything (w ∷ ws) = ap (λ l. w ∷ l) (filter-everything ws)
 
 -- a variable that was not met
 abbrev new : List Met → List ℕ → Bool
@@ -131,13 +105,13 @@ new vs x = not (is_some (met_at vs x))
 
 -- the variables of a row that were not met before
 abbrev fresh : List Met → List Occurrence → List (List ℕ)
-fresh vs os = keep (new vs) (variables_in os)
+fresh vs os = filter (new vs) (variables_in os)
 
 fresh_old : (vs : List Met) (o : Occurrence) (os : List Occurrence) (v : Met) → met_at vs o.word ≡ Some v → fresh vs (o ∷ os) ≡ fresh vs os
 fresh_old vs o os v q =
     cond-false (new vs o.word) _ _ (ap (λ a. not (is_some a)) q)
-    ∙ keep_without (new vs) o.word (variables_in os)
-    ∙ keep_same (λ x. not (bytes_eq o.word x) && new vs x) (new vs) (variables_in os) (λ x. go x (bytes_eq o.word x) refl)
+    ∙ filter-without (new vs) o.word (variables_in os)
+    ∙ filter_agree (λ x. not (bytes_eq o.word x) && new vs x) (new vs) (λ x. go x (bytes_eq o.word x) refl) (variables_in os)
   where
     go : (x : List ℕ) (b : Bool) → bytes_eq o.word x ≡ b → (not b && new vs x) ≡ new vs x
     go x true e = sym (ap (λ a. not (is_some a)) (ap (met_at vs) (sym ((bytes_eq-Decides o.word x).0 e)) ∙ q))
@@ -147,10 +121,10 @@ fresh_new : (vs : List Met) (o : Occurrence) (os : List Occurrence) → met_at v
 fresh_new vs o os q =
     cond-true (new vs o.word) _ _ (ap (λ a. not (is_some a)) q)
     ∙ ap (λ l. o.word ∷ l)
-    (keep_without (new vs) o.word (variables_in os)
-    ∙ keep_same (λ x. not (bytes_eq o.word x) && new vs x) (new (vs ++ met_as o ∷ [])) (variables_in os) (λ x. go (met_at vs x) (bytes_eq o.word x) ∙ sym (ap (λ a. not (is_some a)) (met-more vs (met_as o) x))))
+    (filter-without (new vs) o.word (variables_in os)
+    ∙ filter_agree (λ x. not (bytes_eq o.word x) && new vs x) (new (vs ++ met_as o ∷ [])) (λ x. go (met_at vs x) (bytes_eq o.word x) ∙ sym (ap (λ a. not (is_some a)) (met-more vs (met_as o) x))) (variables_in os))
   where
-    go : (a : Option Met) (b : Bool) → (not b && not (is_some a)) ≡ not (is_some (or_met a (cond b (Some (met_as o)) None)))
+    go : (a : Option Met) (b : Bool) → (not b && not (is_some a)) ≡ not (is_some (option_or a (cond b (Some (met_as o)) None)))
     go (Some v) true = refl
     go (Some v) false = refl
     go None true = refl
@@ -182,12 +156,12 @@ right (o ∷ os) vs h = go (first_met vs o.word) refl h.0 h.1 (λ us. right os u
   where
     go : (a : Option ℕ) → first_met vs o.word ≡ a → met_fault_among vs o.condition o.binds o.word a ≡ None → Mets (cond (is_some a) vs (vs ++ met_as o ∷ [])) os → ((us : List Met) → Mets us os → Right us os) → Right vs (o ∷ os)
     go None e f g again =
-        let q = first-none vs o.word 0 e in
+        let q = met-none vs o.word e in
         let b = no_lack o.binds wrong_variable _ f in
         let p = or_parts (leb 16 (length vs)) (not (nameable o.word)) (no_fault _ over_limit None b.1).0 in
         let room = leb-false 16 (length vs) p.0 in
         let r = again (vs ++ met_as o ∷ []) g in
-        let long = length_more vs (met_as o) in
+        let long = length_push vs (met_as o) in
         let k = fresh_new vs o os q in
         record {
           met = (
@@ -221,10 +195,10 @@ mets (o ∷ os) vs r = go (first_met vs o.word) refl (λ us. mets os us)
   where
     go : (a : Option ℕ) → first_met vs o.word ≡ a → ((us : List Met) → Right us os → Mets us os) → (met_fault_among vs o.condition o.binds o.word a ≡ None) × Mets (cond (is_some a) vs (vs ++ met_as o ∷ [])) os
     go None e again =
-        let q = first-none vs o.word 0 e in
+        let q = met-none vs o.word e in
         let m : MetRightly o o = subst (Found (MetRightly o)) (late_self vs o os q) r.met.0 in
         let k = fresh_new vs o os q in
-        let long = length_more vs (met_as o) in
+        let long = length_push vs (met_as o) in
         let few : Room 16 (length vs) (suc (length (fresh (vs ++ met_as o ∷ []) os))) = subst (λ l. Room 16 (length vs) (length l)) k r.few in
         let named : Every (λ w. nameable w ≡ true) (o.word ∷ fresh (vs ++ met_as o ∷ []) os) = subst (Every (λ w. nameable w ≡ true)) k r.long in
         let room : length vs < 16 = (let x = few 0 (omega arith) in omega arith) in (
@@ -265,7 +239,7 @@ usable [] vs w = go (first_met vs w) refl
   where
     go : (a : Option ℕ) → first_met vs w ≡ a → Iff (unbound_among vs a ≡ None) (Positive (late (met_at vs w) None))
     go None e =
-        let q = first-none vs w 0 e in
+        let q = met-none vs w e in
         record {
           to = λ h. let z : ◌≡◌ {A = ℕ} 0 1 = cc in absurd (omega arith);
           back = λ h. absurd (subst (λ a. Positive (late a None)) q h);
@@ -298,7 +272,7 @@ pub record Rightly (os : List Occurrence) : Type 0 where
 
 pub all_right : (os : List Occurrence) → Iff (Mets [] os) (Rightly os)
 all_right os =
-    let k : fresh [] os ≡ variables_in os = keep_all (variables_in os) in
+    let k : fresh [] os ≡ variables_in os = filter-everything (variables_in os) in
     record {
       to = λ h. let r = right os [] h in record { met = r.met; few = subst (λ l. Room 16 0 (length l)) k r.few; long = subst (Every (λ w. nameable w ≡ true)) k r.long };
       back = λ h. mets os [] (record { met = h.met; few = subst (λ l. Room 16 0 (length l)) (sym k) h.few; long = subst (Every (λ w. nameable w ≡ true)) (sym k) h.long });

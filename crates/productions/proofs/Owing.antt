@@ -2,7 +2,7 @@
 use Rattle.std.proofs.Common.{◌≡◌, ℕ, zero, suc, ◌+◌, ◌-◌, ◌<◌, ◌≤◌, Bool, true, false, cond, leb, List, [], ◌∷◌, ◌++◌, map, length, get_or, ℤ, is_some, Some, None, Option, unwrap_or, sym, refl, ap, ◌∙◌, subst, append_assoc, append-nil, arith, le-leb, leb-false, leb-true}
 use borrow.Author.Tests.{lt-leb}
 use lib.ListN.{length-map}
-use Rattle.std.proofs.lemmas.List.{get_or-map}
+use Rattle.std.proofs.lemmas.List.{get_or-map, length_push}
 use Rattle.std.proofs.lemmas.Bool.{and_parts, and_from, or_parts, or_from, cond-true, cond-false}
 use Rattle.values.specs.declared.value.Value.{Value}
 use Rattle.values.specs.Naming.{number_of, after_intern}
@@ -12,15 +12,14 @@ use Rattle.rules.specs.Rules.{FieldTest, Condition, Setting, Rule}
 use Rattle.rules.specs.Sizes.{Size, size_of_all}
 use Rattle.languages.specs.Refusals.{Fault, wrong_name, no_such_condition, over_limit}
 use Rattle.languages.specs.Scripts.{Script, or_fault, judged_in, Faultless}
-use Rattle.languages.specs.Naming.{unnameable, class_at, field_at, class_named, field_named, undeclared, lacking, value_fault, after_value, Constant, symbolic, numeric}
+use Rattle.languages.specs.Naming.{Grows, unnameable, class_at, field_at, class_named, field_named, undeclared, lacking, value_fault, after_value, Constant, symbolic, numeric}
 use Rattle.productions.specs.Forms.{Operand, fixed, named, Chosen, constant_in, TestForm, bare, under, one_of, PairForm, Pattern, ConditionForm, positive, negative, SettingForm, ActionForm, making, modifying, removing, halting, ProductionForm}
 use Rattle.productions.specs.Sofar.{Met, Sofar, with_names, with_condition, one_test, one_constant, one_setting, full, negated_fault, condition_fault, action_fault, test_fault, chosen_fault, setting_fault, name_fault, ordinal, ordinal_fault, first_met, met_fault_among, unbound_among, met_too, operand_fault, after_operand, given_fault, after_given, binding, Acting, on_make, on_modify, acting_class}
 use Rattle.productions.specs.Spelling.{Asked, begun, settings_script, action_script, actions_script, choice_script, test_script, pairs_script, pattern_script, conditions_script, production_script}
 use Rattle.productions.specs.Said.{constant_symbols, operand_symbols, chosen_symbols, test_symbols, pairs_symbols, conditions_symbols, settings_symbols, action_symbols, actions_symbols}
 use Rattle.productions.specs.Kept.{Every, Known, Occurrence, Contents, nothing, valuing, of_class, belonging, naming, testing, choosing, setting, operand_contents, choice_contents, test_contents, pairs_contents, pattern_contents, conditions_contents, value_contents, settings_contents, action_contents, actions_contents, unnegated_classes, matched, contents}
-use Rattle.productions.proofs.Bound.{no_fault, no_lack}
-use Rattle.productions.proofs.Carrying.{length_more}
-use Rattle.productions.proofs.Growing.{Behind, behind_none, behind_one, behind_value, same_class, same_field, Nameables}
+use Rattle.productions.proofs.Faults.{no_fault, no_lack, neither, both_none, room, has_room}
+use Rattle.productions.proofs.Growing.{behind_none, behind_one, behind_value, same_class, same_field, Nameables}
 
 -- ---- two ways to say one thing
 
@@ -39,13 +38,6 @@ step_under f g = record { to = λ h. g.to (h.0, (f h.0).to h.1); back = λ h. le
 -- nothing can be wrong
 free : {R H : Type 0} → Iff R H → Iff ((◌≡◌ {A = Option Fault} None None) × R) H
 free f = record { to = λ h. f.to h.1; back = λ h. (refl, f.back h) }
-
-neither : (f g : Option Fault) → or_fault f g ≡ None → (f ≡ None) × (g ≡ None)
-neither None g e = (refl, e)
-neither (Some f) g e = let z : ◌≡◌ {A = ℕ} 0 1 = cc in absurd (omega arith)
-
-both_none : (f g : Option Fault) → f ≡ None → g ≡ None → or_fault f g ≡ None
-both_none f g e h = ap (λ x. or_fault x g) e ∙ h
 
 -- two rules for one word, the first or the second of them first
 first_then : (f g : Option Fault) {R G H : Type 0} → Iff ((g ≡ None) × R) G → Iff ((f ≡ None) × G) H → Iff ((or_fault f g ≡ None) × R) H
@@ -72,20 +64,14 @@ second_then f g i j = record {
 abbrev pub Room : ℕ → ℕ → ℕ → Type 0
 Room most n k = (j : ℕ) → j < k → n + j < most
 
-room_at : (most n : ℕ) → full most n ≡ None → n < most
-room_at most n e = leb-false most n (no_fault (leb most n) over_limit None e).0
-
-at_room : (most n : ℕ) → n < most → full most n ≡ None
-at_room most n h = cond-false (leb most n) _ _ (lt-leb most n h)
-
 more_room : (most n k : ℕ) → n < most → Room most (n + 1) k → Room most n (1 + k)
 more_room most n k e r zero h = omega arith
 more_room most n k e r (suc j) h = let l = r j (omega arith) in omega arith
 
 one-room : (most n k : ℕ) → Iff ((full most n ≡ None) × Room most (n + 1) k) (Room most n (1 + k))
 one-room most n k = record {
-  to = λ h. more_room most n k (room_at most n h.0) h.1;
-  back = λ r. (at_room most n (let l = r 0 (omega arith) in omega arith), λ j h. let l = r (j + 1) (omega arith) in omega arith);
+  to = λ h. more_room most n k (room most n h.0) h.1;
+  back = λ r. (has_room most n (let l = r 0 (omega arith) in omega arith), λ j h. let l = r (j + 1) (omega arith) in omega arith);
 }
 
 pub all_room : (most n k : ℕ) → n ≤ most → Room most n k → n + k ≤ most
@@ -130,7 +116,7 @@ record Stage (ns : List (List ℕ)) (n : ℕ) (ks : List Declared) (m : ℕ) (d 
   conditions : length d.conditions ≡ n
   classes : map (λ c. c.class) (unnegated d.conditions) ≡ ks
   actions : length d.actions ≡ m
-  names : Behind ns d.names
+  names : Grows ns d.names
 
 -- a condition with these tests
 abbrev made : Bool → Declared → List FieldTest → Condition
@@ -182,16 +168,16 @@ module _ (cs : List Declared) (rs : List Rule) (ns ms : List (List ℕ)) (known 
   }
 
   -- a class, an attribute, the number of a condition
-  class-step : {Q : Type 0} (d : Sofar) (ws : List (List ℕ)) (r : Contents) (w : List ℕ) → Behind ns d.names → Iff ((undeclared cs d.names w ≡ None) × HoldsAt Q d ws r) (HoldsAt Q d ws (of_class w r))
+  class-step : {Q : Type 0} (d : Sofar) (ws : List (List ℕ)) (r : Contents) (w : List ℕ) → Grows ns d.names → Iff ((undeclared cs d.names w ≡ None) × HoldsAt Q d ws r) (HoldsAt Q d ws (of_class w r))
   class-step d ws r w b = record {
     to = λ h. record { besides = h.1.besides; symbols = h.1.symbols; met = h.1.met; used = h.1.used; tests = h.1.tests; constants = h.1.constants; settings = h.1.settings; classes = (sym (ap is_some (same_class cs ns d.names w known b)) ∙ (no_lack _ wrong_name None h.0).0, h.1.classes); attributes = h.1.attributes; ordinals = h.1.ordinals };
     back = λ h. (cond-true (is_some (class_at cs (number_of d.names w))) None (Some wrong_name) (ap is_some (same_class cs ns d.names w known b) ∙ h.classes.0), record { besides = h.besides; symbols = h.symbols; met = h.met; used = h.used; tests = h.tests; constants = h.constants; settings = h.settings; classes = h.classes.1; attributes = h.attributes; ordinals = h.ordinals });
   }
 
-  same_lacking : (d : Sofar) (c a : List ℕ) (k : Declared) → k ≡ class_named cs ns c → Behind ns d.names → is_some (field_at k (number_of d.names a)) ≡ is_some (field_at (class_named cs ns c) (number_of ns a))
+  same_lacking : (d : Sofar) (c a : List ℕ) (k : Declared) → k ≡ class_named cs ns c → Grows ns d.names → is_some (field_at k (number_of d.names a)) ≡ is_some (field_at (class_named cs ns c) (number_of ns a))
   same_lacking d c a k e b = ap (λ x. is_some (field_at x (number_of d.names a))) e ∙ ap is_some (same_field cs ns d.names c a known b)
 
-  attribute-step : {Q : Type 0} (d : Sofar) (ws : List (List ℕ)) (r : Contents) (c a : List ℕ) (k : Declared) → k ≡ class_named cs ns c → Behind ns d.names → Iff ((lacking k d.names a ≡ None) × HoldsAt Q d ws r) (HoldsAt Q d ws (belonging c a r))
+  attribute-step : {Q : Type 0} (d : Sofar) (ws : List (List ℕ)) (r : Contents) (c a : List ℕ) (k : Declared) → k ≡ class_named cs ns c → Grows ns d.names → Iff ((lacking k d.names a ≡ None) × HoldsAt Q d ws r) (HoldsAt Q d ws (belonging c a r))
   attribute-step d ws r c a k e b = record {
     to = λ h. record { besides = h.1.besides; symbols = h.1.symbols; met = h.1.met; used = h.1.used; tests = h.1.tests; constants = h.1.constants; settings = h.1.settings; classes = h.1.classes; attributes = (sym (same_lacking d c a k e b) ∙ (no_lack (is_some (field_at k (number_of d.names a))) wrong_name None h.0).0, h.1.attributes); ordinals = h.1.ordinals };
     back = λ h. (cond-true (is_some (field_at k (number_of d.names a))) None (Some wrong_name) (same_lacking d c a k e b ∙ h.attributes.0), record { besides = h.besides; symbols = h.symbols; met = h.met; used = h.used; tests = h.tests; constants = h.constants; settings = h.settings; classes = h.classes; attributes = h.attributes.1; ordinals = h.ordinals });
@@ -299,7 +285,7 @@ module _ (cs : List Declared) (rs : List Rule) (ns ms : List (List ℕ)) (known 
   -- one condition more
   stage_more : (e : Sofar) (negated : Bool) (k j : Declared) (us : List FieldTest) (n m : ℕ) (ks : List Declared) → k ≡ j → Stage ns n ks m e → Stage ns (n + 1) (cond negated ks (ks ++ j ∷ [])) m (with_condition e (made negated k us))
   stage_more e negated k j us n m ks q s = record {
-    conditions = length_more e.conditions (made negated k us) ∙ ap (λ i. i + 1) s.conditions;
+    conditions = length_push e.conditions (made negated k us) ∙ ap (λ i. i + 1) s.conditions;
     classes = classes-more e.conditions (made negated k us) ∙ ap (λ l. cond negated l (l ++ k ∷ [])) s.classes ∙ ap (λ i. cond negated ks (ks ++ i ∷ [])) q;
     actions = s.actions;
     names = s.names;
@@ -343,7 +329,7 @@ module _ (cs : List Declared) (rs : List Rule) (ns ms : List (List ℕ)) (known 
   -- the settings of an action on the class c
   settings-holds : (ss : List SettingForm) (d : Sofar) (a : Acting) (done : List Setting) (go : Sofar → Script Asked) (Q : Type 0) (ws : List (List ℕ)) (r : Contents) (n m : ℕ) (ks : List Declared) (c : List ℕ) → acting_class a ≡ class_named cs ns c → r.occurrences ≡ [] → Stage ns n ks m d → ((e : Sofar) → Stage ns n ks (m + 1) e → Iff (Clean (go e)) (HoldsAt Q e ws r)) → Iff (Clean (settings_script cs rs d a done ss go)) (HoldsAt Q d (settings_symbols ss ++ ws) (settings_contents c ss r))
   settings-holds [] d a done go Q ws r n m ks c q z s after =
-      free (after _ (record { conditions = s.conditions; classes = s.classes; actions = length_more d.actions _ ∙ ap (λ i. i + 1) s.actions; names = s.names }))
+      free (after _ (record { conditions = s.conditions; classes = s.classes; actions = length_push d.actions _ ∙ ap (λ i. i + 1) s.actions; names = s.names }))
   settings-holds (x ∷ xs) d a done go Q ws r n m ks c q z s after =
       regroup d (operand_symbols x.value) (settings_symbols xs) ws (settings_contents c (x ∷ xs) r)
       (free
@@ -383,10 +369,10 @@ module _ (cs : List Declared) (rs : List Rule) (ns ms : List (List ℕ)) (known 
     action_holds (removing k) d go Q ws r m z s after =
         free
         (step
-        (free (after _ (record { conditions = s.conditions; classes = s.classes; actions = length_more d.actions _ ∙ ap (λ i. i + 1) s.actions; names = s.names })))
+        (free (after _ (record { conditions = s.conditions; classes = s.classes; actions = length_push d.actions _ ∙ ap (λ i. i + 1) s.actions; names = s.names })))
         (ordinal-step d ws r k (counted m d s)))
     action_holds halting d go Q ws r m z s after =
-        free (free (after _ (record { conditions = s.conditions; classes = s.classes; actions = length_more d.actions _ ∙ ap (λ i. i + 1) s.actions; names = s.names })))
+        free (free (after _ (record { conditions = s.conditions; classes = s.classes; actions = length_push d.actions _ ∙ ap (λ i. i + 1) s.actions; names = s.names })))
 
     actions-holds : (as' : List ActionForm) (d : Sofar) (m : ℕ) → Stage ns n ks m d → Iff (Clean (actions_script cs rs d as')) (HoldsAt (Room 8 m (length as')) d (actions_symbols as') (actions_contents ms as' nothing))
     actions-holds [] d m s = record {
@@ -399,8 +385,8 @@ module _ (cs : List Declared) (rs : List Rule) (ns ms : List (List ℕ)) (known 
       where
         acted : length d.actions ≡ m → Iff ((action_fault d ≡ None) × Room 8 (m + 1) (length as')) (Room 8 m (length (a ∷ as')))
         acted e = record {
-          to = λ h j l. more_room 8 m (length as') (subst (λ i. i < 8) e (room_at 8 (length d.actions) h.0)) h.1 j (omega arith);
-          back = λ h. (at_room 8 (length d.actions) (let l = h 0 (omega arith) in omega arith), λ j l. let x = h (j + 1) (omega arith) in omega arith);
+          to = λ h j l. more_room 8 m (length as') (subst (λ i. i < 8) e (room 8 (length d.actions) h.0)) h.1 j (omega arith);
+          back = λ h. (has_room 8 (length d.actions) (let l = h 0 (omega arith) in omega arith), λ j l. let x = h (j + 1) (omega arith) in omega arith);
         }
 
   -- ---- conditions
@@ -431,14 +417,14 @@ module _ (cs : List Declared) (rs : List Rule) (ns ms : List (List ℕ)) (known 
       long = sym (length-map (unnegated d.conditions) (λ c. c.class)) ∙ ap length s.classes
 
       more : length (ks ++ k ∷ []) ≡ length ks + 1
-      more = length_more ks k
+      more = length_push ks k
 
   negated : (p : Pattern) (ps : List ConditionForm) (as' : List ActionForm) (d : Sofar) (n : ℕ) (ks : List Declared) → Stage ns n ks 0 d → Iff ((negated_fault d ≡ None) × Rooms (n + 1) (length ks) ps as') (Rooms n (length ks) (negative p ∷ ps) as')
   negated p ps as' d n ks s = record {
     to = λ h.
-        let a = room_at 8 (length d.conditions) h.0 in
+        let a = room 8 (length d.conditions) h.0 in
         (λ j l. more_room 8 n (length ps) (omega (arith, s.conditions)) h.1.0 j (omega arith), h.1.1, h.1.2);
-    back = λ h. (at_room 8 (length d.conditions) (let x = h.0 0 (omega arith) in omega (arith, s.conditions)), (λ j l. let x = h.0 (j + 1) (omega arith) in omega arith, h.1, h.2));
+    back = λ h. (has_room 8 (length d.conditions) (let x = h.0 0 (omega arith) in omega (arith, s.conditions)), (λ j l. let x = h.0 (j + 1) (omega arith) in omega arith, h.1, h.2));
   }
 
   conditions-holds : (ps : List ConditionForm) (as' : List ActionForm) (d : Sofar) (n : ℕ) (ks : List Declared) → Stage ns n ks 0 d → ks ++ map (class_named cs ns) (unnegated_classes ps) ≡ map (class_named cs ns) ms → Iff (Clean (conditions_script cs rs d ps as')) (HoldsAt (Rooms n (length ks) ps as') d (conditions_symbols ps ++ actions_symbols as') (conditions_contents n ps (actions_contents ms as' nothing)))

@@ -1,6 +1,6 @@
 -- What may be left of a production in each state, and that the words lead through the states. Assumes nothing.
 use Rattle.std.proofs.Common.{◌≡◌, ℕ, ◌<◌, Bool, true, false, not, List, [], ◌∷◌, ◌++◌, length, ℤ, pos, None, codes, Option, sym, refl, ap, ◌∙◌, subst, arith}
-use Rattle.std.proofs.lemmas.Bool.{cond_both, cond-false}
+use Rattle.std.proofs.lemmas.Bool.{cond_both, cond-false, false≢true}
 use Rattle.words.specs.Kinds.{Kind, open', close', hat, minus, arrow, open_choice, close_choice, test, number, variable, symbol, illegal}
 use Rattle.words.specs.Words.{Lexeme}
 use Rattle.words.specs.declared.token.Predicate.{Predicate}
@@ -107,38 +107,35 @@ constant-sense (variable w) = refl
 constant-sense (symbol w) = refl
 constant-sense (illegal w) = refl
 
-not_choosable : false ≡ true → ⊥
-not_choosable e = let z : ◌≡◌ {A = ℕ} 0 1 = cc in omega arith
-
 -- a word of a choice is taken as one
 on_chosen_lem : (x f : Kind → Move) (k : Kind) → choosable k ≡ true → on_chosen x f (sense k) ≡ x (sense k)
-on_chosen_lem x f open' e = absurd (not_choosable e)
-on_chosen_lem x f close' e = absurd (not_choosable e)
-on_chosen_lem x f hat e = absurd (not_choosable e)
+on_chosen_lem x f open' e = absurd (false≢true e)
+on_chosen_lem x f close' e = absurd (false≢true e)
+on_chosen_lem x f hat e = absurd (false≢true e)
 on_chosen_lem x f minus e = refl
 on_chosen_lem x f arrow e = refl
 on_chosen_lem x f open_choice e = refl
-on_chosen_lem x f close_choice e = absurd (not_choosable e)
+on_chosen_lem x f close_choice e = absurd (false≢true e)
 on_chosen_lem x f (test p) e = refl
 on_chosen_lem x f (number n w) e = refl
 on_chosen_lem x f (variable w) e = refl
 on_chosen_lem x f (symbol w) e = refl
-on_chosen_lem x f (illegal w) e = absurd (not_choosable e)
+on_chosen_lem x f (illegal w) e = absurd (false≢true e)
 
 -- and not as the end of the choice
 on_close-chosen : (y : Move) (x f : Kind → Move) (k : Kind) → choosable k ≡ true → on_close_choice y (on_chosen x f) (sense k) ≡ x (sense k)
-on_close-chosen y x f open' e = absurd (not_choosable e)
-on_close-chosen y x f close' e = absurd (not_choosable e)
-on_close-chosen y x f hat e = absurd (not_choosable e)
+on_close-chosen y x f open' e = absurd (false≢true e)
+on_close-chosen y x f close' e = absurd (false≢true e)
+on_close-chosen y x f hat e = absurd (false≢true e)
 on_close-chosen y x f minus e = refl
 on_close-chosen y x f arrow e = refl
 on_close-chosen y x f open_choice e = refl
-on_close-chosen y x f close_choice e = absurd (not_choosable e)
+on_close-chosen y x f close_choice e = absurd (false≢true e)
 on_close-chosen y x f (test p) e = refl
 on_close-chosen y x f (number n w) e = refl
 on_close-chosen y x f (variable w) e = refl
 on_close-chosen y x f (symbol w) e = refl
-on_close-chosen y x f (illegal w) e = absurd (not_choosable e)
+on_close-chosen y x f (illegal w) e = absurd (false≢true e)
 
 -- a fact of each word of a choice
 by_chosen : (P : Kind → Move → Type 0) (x f : Kind → Move) → ((k : Kind) → choosable k ≡ true → P (sense k) (x (sense k))) → ((k : Kind) → P (sense k) (f (sense k))) → (k : Kind) → P (sense k) (on_chosen x f (sense k))
@@ -255,7 +252,7 @@ module _ (cs : List Declared) (rs : List Rule) where
     where
       unordered : (b : Bool) → not b ≡ true → b ≡ false
       unordered false e = refl
-      unordered true e = absurd (not_choosable e)
+      unordered true e = absurd (false≢true e)
   see_operand d c f p (fixed (numeric n)) h ps os as' =
       to (at_operand d c f p) (judge (number n []) (operand_fault d (binding p) (fixed (numeric n)))) (at_pairs (after_operand d c.negated (fixed (numeric n))) (with_test c f (compared p (term_for d (fixed (numeric n)))))) (ps, os, as') refl refl
   see_operand d c f p (named w) h ps os as' =

@@ -87,7 +87,7 @@ impl Draft {
     fn open_action(&self) -> Result<Step, Halt>
         ensures { (ns : List (List ℕ)) → Steps result ns self.now (unless (action_fault (sofar_of ns self.now)) (onward (at_action (sofar_of ns self.now)))) }
     {
-        if self.count_actions() >= MOST_ACTIONS {
+        if self.actions.len() >= MOST_ACTIONS {
             return Err(Halt::Refused(Cause::OverLimit));
         }
         Ok(Step::Onward(State::Action))

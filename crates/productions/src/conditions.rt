@@ -54,7 +54,7 @@ impl Draft {
     fn open_condition(&self) -> Result<Step, Halt>
         ensures { (ns : List (List ℕ)) → Steps result ns self.now (unless (condition_fault (sofar_of ns self.now)) (onward (at_class (sofar_of ns self.now) false))) }
     {
-        if self.count_conditions() >= MOST_CONDITIONS {
+        if self.conditions.len() >= MOST_CONDITIONS {
             return Err(Halt::Refused(Cause::OverLimit));
         }
         if count_unnegated(&self.conditions) >= MOST_UNNEGATED {
@@ -67,7 +67,7 @@ impl Draft {
     fn negate_condition(&self) -> Result<Step, Halt>
         ensures { (ns : List (List ℕ)) → Steps result ns self.now (unless (negated_fault (sofar_of ns self.now)) (onward (at_negated (sofar_of ns self.now)))) }
     {
-        if self.count_conditions() >= MOST_CONDITIONS {
+        if self.conditions.len() >= MOST_CONDITIONS {
             return Err(Halt::Refused(Cause::OverLimit));
         }
         Ok(Step::Onward(State::Negated))

@@ -1,6 +1,5 @@
 // A production as far as it was read.
-ghost use Rattle.std.specs.Prelude.{◌≡◌, ◌+◌, length};
-ghost use Rattle.rules.specs.Rules.{conditions_of, actions_of};
+ghost use Rattle.std.specs.Prelude.{◌≡◌, ◌+◌};
 ghost use Rattle.productions.specs.Sofar.{full};
 ghost use Rattle.productions.specs.Meaning.{Judges};
 
@@ -58,7 +57,7 @@ pub(crate) fn count(used: &mut usize, most: usize) -> Result<(), Cause>
 
 impl Draft {
     // Nothing is read yet.
-    pub fn blank(heap: Global) -> Result<Draft, AllocError> {
+    pub fn new(heap: Global) -> Result<Draft, AllocError> {
         let variables = Variables::new(heap)?;
         Ok(Draft {
             name: 0,
@@ -76,19 +75,5 @@ impl Draft {
             settings: Vec::new(heap),
             heap,
         })
-    }
-
-    // How many conditions were read whole.
-    pub fn count_conditions(&self) -> usize
-        ensures { result ≡ length (conditions_of self.now.conditions.items) }
-    {
-        self.conditions.len()
-    }
-
-    // How many actions were read whole.
-    pub fn count_actions(&self) -> usize
-        ensures { result ≡ length (actions_of self.now.actions.items) }
-    {
-        self.actions.len()
     }
 }

@@ -52,7 +52,7 @@ fn read_draft(
     ensures drafts { Drafts (length (text_of words.old)) (entering_classes base.now) (entering_rules base.now) (held names.old) (rest words.old) result (held names.new) (rest words.new) }
     ensures text { text_of words.new ≡ text_of words.old }
 {
-    let mut draft = Draft::blank(heap)?;
+    let mut draft = Draft::new(heap)?;
     let count = names.count();
     let mut ahead = *words;
     if let Err(trouble) = draft.read(&mut ahead, names, base) {

@@ -68,7 +68,7 @@ impl Draft {
     fn bare_variable(&mut self, field: Place, word: &[u8]) -> Result<Step, Halt>
         ensures { (ns : List (List ℕ)) → Steps result ns self.new (bare_word (sofar_of ns self.old) (condition_of self.old.condition) field.number (named word.now)) }
     {
-        let condition = self.count_conditions();
+        let condition = self.conditions.len();
         let negated = self.condition.negated;
         let place = self.variables.meet(word, true, negated, condition)?;
         self.add_bare_test(field, Test::Variable(place))
@@ -135,7 +135,7 @@ impl Draft {
     ) -> Result<Step, Halt>
         ensures { (ns : List (List ℕ)) → Steps result ns self.new (compared_word (sofar_of ns self.old) (condition_of self.old.condition) field.number predicate (named word.now)) }
     {
-        let condition = self.count_conditions();
+        let condition = self.conditions.len();
         let negated = self.condition.negated;
         let binds = is_binding(predicate);
         let place = self.variables.meet(word, binds, negated, condition)?;
@@ -186,8 +186,7 @@ impl Draft {
     {
         match token {
             Token::Number(n, _) => self.add_constant(field, Value::Number(*n)),
-            Token::Symbol(word) => self.chosen_symbol(field, word, names),
-            Token::Variable(word) => self.chosen_symbol(field, word, names),
+            Token::Symbol(word) | Token::Variable(word) => self.chosen_symbol(field, word, names),
             Token::Test(predicate) => self.chosen_symbol(field, predicate.bytes(), names),
             Token::Minus => self.chosen_symbol(field, b"-", names),
             Token::Arrow => self.chosen_symbol(field, b"-->", names),
