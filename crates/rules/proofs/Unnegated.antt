@@ -1,5 +1,5 @@
 -- The unnegated conditions, as the code goes through them. Assumes nothing.
-use Rattle.std.proofs.Common.{◌≡◌, ℕ, zero, suc, ◌+◌, ◌-◌, ◌<◌, ◌≤◌, Bool, true, false, not, cond, ◌&&◌, leb, List, [], ◌∷◌, map, filter, length, get_or, Some, None, Option, sym, refl, ap, ◌∙◌, arith, le-leb, MatchOption}
+use Rattle.std.proofs.Common.{◌≡◌, ℕ, zero, suc, ◌-◌, ◌≤◌, Bool, true, false, not, cond, ◌&&◌, leb, List, [], ◌∷◌, map, filter, length, get_or, Some, None, Option, sym, refl, ap, ◌∙◌, arith, le-leb, MatchOption}
 use borrow.Author.Tests.{lt-leb}
 use Rattle.std.specs.List.{slice_get}
 use Rattle.std.specs.Option.{option_map}

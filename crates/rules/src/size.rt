@@ -14,7 +14,7 @@ pub const MOST_CONSTANTS: usize = 256;
 pub const MOST_SETTINGS: usize = 256;
 
 // How many tests, constants of choices and settings there are.
-#[derive(Clone, Copy)]
+#[derive(Clone, Copy, PartialEq, Eq, Default, Debug)]
 pub struct Size {
     pub tests: usize,
     pub constants: usize,

@@ -1,4 +1,4 @@
-use Rattle.std.proofs.Common.{◌≡◌, ◌≤◌, ◌-◌, not, Some, None, Option, Bor, refl, sym, ◌∙◌, ap, subst, rules, tests, arith}
+use Rattle.std.proofs.Common.{◌≡◌, ◌≤◌, ◌-◌, not, Some, None, Option, Bor, refl, sym, ◌∙◌, ap, subst, rules, tests}
 use Rattle.std.specs.List.{slice_get}
 use Rattle.std.specs.Option.{option_map}
 use Rattle.std.proofs.lemmas.Iterator.{YieldsList-from_slice}

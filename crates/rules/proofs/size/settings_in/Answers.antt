@@ -1,4 +1,4 @@
-use Rattle.std.proofs.Common.{◌≡◌, ◌<◌, ◌^◌, ◌+◌, sum_by, vec_len, sym, ◌∙◌, rules, arith}
+use Rattle.std.proofs.Common.{◌≡◌, ◌<◌, ◌^◌, sum_by, sym, ◌∙◌, rules, arith}
 use Rattle.rules.specs.Rules.{action_of}
 use Rattle.rules.specs.Sizes.{action_settings}
 use Rattle.rules.proofs.Sizes.{settings-sum}
