@@ -77,11 +77,9 @@ impl Legend<'_> {
     ) -> Result<(), AllocError>
         ensures { OnOk result (page.new ≡ page.old ++ fields_text (held self.now.names.now) 1 (declared class.now).attributes (fields_at (F.Facts.facts facts.now) place)) }
     {
-        for i in 0..class.count() {
-            if let Some(attribute) = class.attribute(i) {
-                let value = facts.value_at(place, i + 1);
-                self.write_field(page, attribute, value)?;
-            }
+        for (i, attribute) in class.attributes().iter().enumerate() {
+            let value = facts.value_at(place, i + 1);
+            self.write_field(page, *attribute, value)?;
         }
         Ok(())
     }
