@@ -1,5 +1,4 @@
 use Rattle.std.proofs.Common.{◌≡◌, [], length, Ok, ap, ◌∙◌, arith}
-use Rattle.std.proofs.lemmas.Result.{err_from_is_err_and}
 use Rattle.words.specs.Words.{rest, text_of}
 use Rattle.values.specs.Naming.{held}
 use Rattle.facts.specs.Model.{model}
@@ -8,11 +7,6 @@ use Rattle.rules.specs.Bases.{declaring_classes, sealed_classes}
 use Rattle.console.specs.Sessions.{reached, left}
 use Rattle.console.proofs.Going.{from_start, commands-whole}
 use Rattle.console.proofs.run.run.Goals as goal
-
-pub returns-in_err-command_all : goal.returns-in_err-command_all
-returns-in_err-command_all c =
-    let p = err_from_is_err_and c.from_residual-in_err-command_all.result c.from_residual-in_err-command_all.ensures.1 in
-    rw p.1 tt
 
 pub returns : goal.returns
 returns c =
