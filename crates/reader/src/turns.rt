@@ -14,8 +14,9 @@ ghost use Rattle.reader.specs.Meaning.{state_of, act_of, Steps, Grows};
 use crate::form::{Command, Phase, Taken};
 use crate::refusal::Cause;
 use crate::state::{Filling, State, Step};
-use rules::class::{Class, ClassRefusal};
+use rules::class::Class;
 use rules::classes::{Classes, MOST_CLASSES};
+use rules::refusal::NotTaken;
 use values::bytes::is;
 use values::element::Element;
 use values::names::Names;
@@ -70,12 +71,12 @@ fn head_word(phase: Phase, word: &[u8]) -> Step
 }
 
 // The cause of a class or attribute that is not taken.
-fn class_cause(refusal: ClassRefusal) -> Cause
+fn class_cause(refusal: NotTaken) -> Cause
     ensures { result ≡ class_cause refusal }
 {
     match refusal {
-        ClassRefusal::Twice => Cause::WrongName,
-        ClassRefusal::TooMany => Cause::OverLimit,
+        NotTaken::Twice => Cause::WrongName,
+        NotTaken::TooMany => Cause::OverLimit,
     }
 }
 
