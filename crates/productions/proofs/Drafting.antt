@@ -8,7 +8,7 @@ use Rattle.values.proofs.Finding.{found}
 use Rattle.values.proofs.Mapped.{mapped_push}
 use Rattle.rules.specs.Attributes.{declared, field_of}
 use Rattle.rules.specs.declared.class.Class.{Class}
-use Rattle.rules.proofs.Declared.{counted}
+use Rattle.rules.proofs.Declared.{fifteen}
 use Rattle.languages.specs.Machines.{unless, on_number}
 use Rattle.languages.specs.Refusals.{over_limit}
 use Rattle.languages.specs.Senses.{sense}
@@ -31,7 +31,7 @@ pushed_meaning f r xs ys x y h e g = mapped_push f xs ys x y (pushed r xs ys x h
 pub field-small : (c : Class) (a f : ℕ) → Some f ≡ field_of (declared c) a → f < 16
 field-small c a f h =
     let g = found (λ x. eqb x a) 0 (declared c).attributes 1 f (sym h) in
-    omega (arith, g.1, g.2, counted c, c.few)
+    omega (arith, g.1, g.2, fifteen c)
 
 -- there is room for one more
 pub roomy : (most n : ℕ) (x : Move) → n < most → x ≡ unless (full most n) x
