@@ -1,7 +1,8 @@
 -- Looking for the first of a row that passes a test. Assumes nothing.
-use Rattle.std.proofs.Common.{◌≡◌, ℕ, zero, suc, ◌+◌, ◌<◌, ◌≤◌, Bool, true, false, cond, List, [], ◌∷◌, ◌++◌, length, get_or, drop, Some, None, sym, ap, ◌∙◌, add-zero, arith}
+use Rattle.std.proofs.Common.{◌≡◌, ℕ, map, refl, zero, suc, ◌+◌, ◌<◌, ◌≤◌, Bool, true, false, cond, List, [], ◌∷◌, ◌++◌, length, get_or, drop, Some, None, sym, ap, ◌∙◌, add-zero, arith}
 use Rattle.std.proofs.lemmas.List.{at_drop_more, at_drop_all}
 use Rattle.std.proofs.lemmas.Bool.{cond-true, cond-false, cond_both}
+use Rattle.std.specs.Option.{option_map}
 use Rattle.values.specs.Firsts.{first_from}
 
 module _ {X : Type 0} (test : X → Bool) (d : X) where
@@ -56,3 +57,17 @@ module _ {X : Type 0} (test : X → Bool) (d : X) where
       go : (b : Bool) → (first_from test (n + 1) xs ≡ None → test y ≡ true → first_from test (n + 1) (xs ++ y ∷ []) ≡ Some (n + 1 + length xs)) → cond b (Some n) (first_from test (n + 1) xs) ≡ None → test y ≡ true → cond b (Some n) (first_from test (n + 1) (xs ++ y ∷ [])) ≡ Some (n + suc (length xs))
       go true f e t = let z : ◌≡◌ {A = ℕ} 0 1 = cc in absurd (omega arith)
       go false f e t = let s : n + 1 + length xs ≡ n + suc (length xs) = omega arith in f e t ∙ ap Some s
+
+-- the first of a row by its meanings is the first of the row
+pub first_mapped : {V Y : Type 0} (f : V → Y) (test : Y → Bool) (n : ℕ) (xs : List V) → first_from test n (map f xs) ≡ first_from (λ x. test (f x)) n xs
+first_mapped f test n [] = refl
+first_mapped f test n (x ∷ xs) = ap (cond (test (f x)) (Some n)) (first_mapped f test (n + 1) xs)
+
+-- counted from one more
+pub first_next : {X : Type 0} (test : X → Bool) (n : ℕ) (xs : List X) → first_from test (n + 1) xs ≡ option_map (λ i. i + 1) (first_from test n xs)
+first_next test n [] = refl
+first_next test n (x ∷ xs) = go (test x) (first_next test (n + 1) xs)
+  where
+    go : (b : Bool) → first_from test (n + 1 + 1) xs ≡ option_map (λ i. i + 1) (first_from test (n + 1) xs) → cond b (Some (n + 1)) (first_from test (n + 1 + 1) xs) ≡ option_map (λ i. i + 1) (cond b (Some n) (first_from test (n + 1) xs))
+    go true e = refl
+    go false e = e

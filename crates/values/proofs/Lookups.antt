@@ -1,13 +1,13 @@
 -- Looking a word up among the names, and one name more. Assumes nothing.
-use Rattle.std.proofs.Common.{◌≡◌, ℕ, ◌+◌, ◌<◌, ◌≤◌, max, true, false, cond, ◌&&◌, leb, List, [], ◌∷◌, ◌++◌, length, get_or, take, is_some, Some, None, vec_items, vec_len, codes, Option, sym, refl, ap, ◌∙◌, ⊎_elim, arith, length-append, le-ltb, lt-ltb, le-leb, MatchOption}
+use Rattle.std.proofs.Common.{◌≡◌, ℕ, ◌+◌, ◌<◌, ◌≤◌, max, List, [], ◌∷◌, ◌++◌, length, get_or, take, Some, None, codes, Option, sym, refl, ap, ◌∙◌, ⊎_elim, arith, length-append, MatchOption}
 use Rattle.std.specs.Str.{bytes_eq}
-use Rattle.std.proofs.lemmas.List.{length-map, get_or-take, length-take, get_or_append_left}
+use Rattle.std.proofs.lemmas.List.{get_or-take, length-take, get_or_append_left}
 use Rattle.std.proofs.lemmas.Slice.Eq.{bytes_eq-Decides}
-use Rattle.std.proofs.lemmas.Bool.{cond-true, cond-false, cases_lt, true≢false}
+use Rattle.std.proofs.lemmas.Bool.{cases_lt, true≢false}
 use Rattle.values.proofs.Finding.{found, nowhere}
-use Rattle.values.specs.Spelling.{Distinct, nameable, spelling}
+use Rattle.values.specs.Spelling.{Distinct}
 use Rattle.values.specs.declared.names.Names.{Names}
-use Rattle.values.specs.Naming.{held, number_of, Named, Nameless, admits, or_else, answer_intern, after_intern}
+use Rattle.values.specs.Naming.{held, number_of, Named, Nameless}
 
 -- two places with one name are one place
 one_place : (ns : List (List ℕ)) → Distinct ns → (i j : ℕ) → i < length ns → j < length ns → get_or ns i [] ≡ get_or ns j [] → j ≡ i
@@ -54,29 +54,6 @@ pushed_first (n ∷ ns) ms e = e
 
 pub taken-first : (ns : List (List ℕ)) (n : ℕ) → get_or ns 0 [] ≡ codes "nil" → get_or (take (max n 1) ns) 0 [] ≡ codes "nil"
 taken-first ns n e = get_or-take (max n 1) ns 0 [] (omega arith) ∙ e
-
--- a new word
-module _ (ns : List (List ℕ)) (w : List ℕ) (new : None ≡ number_of ns w) where
-  pub refused : admits ns w ≡ false → (None ≡ answer_intern ns w) × (ns ≡ after_intern ns w)
-  refused f = (
-    sym (ap (λ o. or_else o (cond (admits ns w) (Some (length ns)) None)) (sym new) ∙ cond-false (admits ns w) _ _ f),
-    sym (ap (λ o. cond (is_some o) ns (cond (admits ns w) (ns ++ w ∷ []) ns)) (sym new) ∙ cond-false (admits ns w) _ _ f),
-  )
-
-  pub added : admits ns w ≡ true → (Some (length ns) ≡ answer_intern ns w) × (ns ++ w ∷ [] ≡ after_intern ns w)
-  added t = (
-    sym (ap (λ o. or_else o (cond (admits ns w) (Some (length ns)) None)) (sym new) ∙ cond-true (admits ns w) _ _ t),
-    sym (ap (λ o. cond (is_some o) ns (cond (admits ns w) (ns ++ w ∷ []) ns)) (sym new) ∙ cond-true (admits ns w) _ _ t),
-  )
-
-pub no_room : (ns : List (List ℕ)) (w : List ℕ) → 256 ≤ length ns → admits ns w ≡ false
-no_room ns w h = ap (λ b. b && nameable w) (le-ltb (length ns) 256 h)
-
-pub room : (ns : List (List ℕ)) (w : List ℕ) → length ns < 256 → 1 ≤ length w → length w ≤ 24 → admits ns w ≡ true
-room ns w h k l = ap (λ b. b && nameable w) (lt-ltb (length ns) 256 h) ∙ ap (λ b. b && leb (length w) 24) (le-leb 1 (length w) k) ∙ le-leb (length w) 24 l
-
-pub counted : (n : Names) → length (held n) ≡ vec_len n.list
-counted n = length-map (vec_items n.list) spelling ∙ sym n.list.ok.0
 
 -- there is one name at least
 pub some_name : (n : Names) → 1 ≤ length (held n)

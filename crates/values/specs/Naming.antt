@@ -1,5 +1,5 @@
 -- What the names hold, and which number a word has among them. Assumes nothing.
-use Rattle.std.specs.Prelude.{◌≡◌, ℕ, ◌<◌, Bool, cond, ◌&&◌, List, [], ◌∷◌, ◌++◌, map, length, is_some, Some, None, vec_items, Option, ◌≢◌, nat_lt, slice_index_or}
+use Rattle.std.specs.Prelude.{◌≡◌, ℕ, ◌<◌, Bool, cond, ◌&&◌, List, [], ◌∷◌, ◌++◌, map, length, is_some, Some, None, Option, ◌≢◌, nat_lt, slice_index_or}
 use Rattle.std.specs.Str.{bytes_eq}
 use Rattle.values.specs.Firsts.{first_from}
 use Rattle.values.specs.Spelling.{spelling, nameable}
@@ -7,7 +7,7 @@ use Rattle.values.specs.declared.names.Names.{Names}
 
 -- the names in the order of their numbers
 abbrev pub held : Names → List (List ℕ)
-held n = map spelling (vec_items n.list)
+held n = map spelling n.list
 
 -- the number of the name with these bytes: the first place where they stand
 abbrev pub number_of : List (List ℕ) → List ℕ → Option ℕ

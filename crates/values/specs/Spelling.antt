@@ -1,10 +1,11 @@
 -- The bytes of a name. Assumes nothing.
-use Rattle.std.specs.Prelude.{ℕ, ◌<◌, Bool, ◌&&◌, List, [], length, take, ◌≢◌, nat_le, slice_index_or}
+use Rattle.std.specs.Prelude.{ℕ, ◌<◌, Bool, ◌&&◌, List, [], length, ◌≢◌, nat_le, slice_index_or}
+use Rattle.rows.specs.Shorts.{bytes_of}
 use Rattle.values.specs.declared.name.Name.{Name}
 
 -- the bytes of a name
 abbrev pub spelling : Name → List ℕ
-spelling n = take n.len n.bytes
+spelling n = bytes_of n.bytes
 
 -- bytes that a name may have: 1 to 24
 abbrev pub nameable : List ℕ → Bool

@@ -9,7 +9,7 @@ pub const FIELDS: usize = 16;
 // Field 0 is the class; the attribute at a place of the class's declaration, counted from 1, has the field of that number.
 #[derive(Clone, Copy)]
 pub struct Element {
-    fields: [Value; 16],
+    fields: [Value; FIELDS],
     ghost sixteen: { length fields ≡ 16 },
 }
 

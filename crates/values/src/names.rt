@@ -3,18 +3,17 @@ ghost use Rattle.std.specs.Prelude.{◌≡◌, ◌<◌, ◌≤◌, [], map, vec_
 ghost use Rattle.values.specs.Spelling.{spelling, Distinct};
 
 use crate::name::Name;
+use rows::few::Few;
 
 // How many symbols there may be.
 pub const MOST_NAMES: usize = 256;
 
-// At most 256 names, of which no two are alike; number 0 is `nil`. The places are reserved once.
+// At most 256 names, of which no two are alike; number 0 is `nil`.
 #[derive(Drop)]
 pub struct Names {
-    list: Vec<Name>,
-    ghost reserved: { 256 ≤ vec_capacity list },
-    ghost few: { vec_len list ≤ 256 },
-    ghost nil: { slice_index_or (map spelling list.items) 0 [] ≡ codes "nil" },
-    ghost distinct: { Distinct (map spelling list.items) },
+    list: Few<Name, MOST_NAMES>,
+    ghost nil: { slice_index_or (map spelling list) 0 [] ≡ codes "nil" },
+    ghost distinct: { Distinct (map spelling list) },
 }
 
 mod methods;

@@ -10,7 +10,7 @@ impl Element {
     pub fn of_class(class: u8) -> Element
         ensures { fields_of result ≡ blank class }
     {
-        let mut fields = [NIL; 16];
+        let mut fields = [NIL; FIELDS];
         fields[0] = Value::Symbol(class);
         Element { fields }
     }
@@ -28,10 +28,6 @@ impl Element {
     pub fn value(&self, field: usize) -> Value
         ensures { result ≡ slice_index_or (fields_of self.now) field nil }
     {
-        if field < FIELDS {
-            self.fields[field]
-        } else {
-            NIL
-        }
+        self.fields.get(field).copied().unwrap_or(NIL)
     }
 }

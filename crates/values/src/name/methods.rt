@@ -2,23 +2,19 @@
 ghost use Rattle.std.specs.Prelude.{◌≡◌, false, MatchOption};
 ghost use Rattle.values.specs.Spelling.{spelling, nameable};
 
-use super::{LONGEST_NAME, Name};
+use super::Name;
+use rows::short::Short;
 
 impl Name {
     // The name with these bytes, or none where they are too many, or none at all.
     pub fn new(word: &[u8]) -> Option<Name>
         ensures { MatchOption result (nameable word.now ≡ false) (λ n. spelling n ≡ word.now) }
     {
-        if word.is_empty() || word.len() > LONGEST_NAME {
+        if word.is_empty() {
             return None;
         }
-        let mut bytes = [0u8; 24];
-        for (i, b) in word.iter().enumerate() {
-            bytes[i] = *b;
-        }
         Some(Name {
-            bytes,
-            len: word.len(),
+            bytes: Short::from_slice(word)?,
         })
     }
 
@@ -26,6 +22,6 @@ impl Name {
     pub fn as_bytes(&self) -> &[u8]
         ensures { result.now ≡ spelling self.now }
     {
-        &self.bytes[0..self.len]
+        self.bytes.as_slice()
     }
 }

@@ -1,10 +1,13 @@
 // Looking a name up, and adding one.
-ghost use Rattle.std.specs.Prelude.{◌≡◌, ◌<◌, ◌≤◌, max, [], ◌∷◌, length, take, IfOk, codes, MatchOption, slice_index_or};
+ghost use Rattle.std.specs.Prelude.{◌≡◌, ◌<◌, ◌≤◌, max, [], ◌∷◌, length, take, IfOk, IfSome, codes, MatchOption, slice_index_or};
+ghost use Rattle.std.specs.Str.{bytes_eq};
+ghost use Rattle.values.specs.Firsts.{first_from};
+ghost use Rattle.values.specs.Spelling.{spelling};
 ghost use Rattle.values.specs.Naming.{held, number_of, Named, Nameless, after_intern, answer_intern};
 
-use super::{MOST_NAMES, Names};
-use crate::bytes::is;
+use super::Names;
 use crate::name::Name;
+use rows::few::Few;
 use std::alloc::{AllocError, Global};
 
 impl Names {
@@ -12,10 +15,8 @@ impl Names {
     pub fn new(heap: Global) -> Result<Names, AllocError>
         ensures { IfOk result (λ n. held n ≡ codes "nil" ∷ []) }
     {
-        let mut list = Vec::with_capacity(heap, MOST_NAMES)?;
-        if let Some(nil) = Name::new(b"nil") {
-            list.push_reserved(nil);
-        }
+        let mut list = Few::new(heap)?;
+        list.push(Name::new(b"nil").unwrap()).unwrap();
         Ok(Names { list })
     }
 
@@ -26,27 +27,33 @@ impl Names {
         self.list.len()
     }
 
+    // The place of the name with exactly these bytes.
+    fn place_of(&self, word: &[u8]) -> Option<usize>
+        ensures place { result ≡ first_from (λ n. bytes_eq (spelling n) word.now) 0 self.now.list }
+        ensures few { IfSome result (λ place. place < 256) }
+    {
+        self.list
+            .as_slice()
+            .iter()
+            .position(|name| name.as_bytes() == word)
+    }
+
     // The number of the name with exactly these bytes, or none where no name has them.
     pub fn find(&self, word: &[u8]) -> Option<u8>
         ensures value { result ≡ number_of (held self.now) word.now }
         ensures law { MatchOption result (Nameless (held self.now) word.now) (λ i. Named (held self.now) word.now i) }
     {
-        for (i, name) in self.list.iter().enumerate() {
-            if is(name.as_bytes(), word) {
-                return Some(i as u8);
-            }
-        }
-        None
+        self.place_of(word).map(|place| place as u8)
     }
 
     // The bytes of the name with this number, or none where there is none.
     pub fn name(&self, number: u8) -> Option<&[u8]>
         ensures { MatchOption result (length (held self.now) ≤ number) (λ b. (number < length (held self.now)) × (b.now ≡ slice_index_or (held self.now) number [])) }
     {
-        match self.list.get(number as usize) {
-            Some(name) => Some(name.as_bytes()),
-            None => None,
-        }
+        self.list
+            .as_slice()
+            .get(number as usize)
+            .map(Name::as_bytes)
     }
 
     // The number of the name with these bytes, which is added behind the others where it is new.
@@ -59,13 +66,7 @@ impl Names {
             return Some(number);
         }
         let number = self.list.len();
-        if number >= MOST_NAMES {
-            return None;
-        }
-        let Some(name) = Name::new(word) else {
-            return None;
-        };
-        self.list.push_reserved(name);
+        self.list.push(Name::new(word)?).ok()?;
         Some(number as u8)
     }
 

@@ -1,33 +1,19 @@
-use Rattle.std.proofs.Common.{[], length, get_or, Some, vec_items, sym, ap, ◌∙◌, subst, arith, rules}
+use Rattle.std.proofs.Common.{◌≡◌, [], ◌∷◌, ◌++◌, List, map, get_or, codes, sym, ap, ◌∙◌, subst}
+use Rattle.std.proofs.lemmas.List.{map-append}
+use Rattle.rows.proofs.Pushed.{pushed_keeps}
 use Rattle.values.specs.Naming.{held}
 use Rattle.values.specs.Spelling.{spelling, Distinct}
-use Rattle.values.proofs.Lookups.{counted, pushed_first, pushed_distinct, refused, added, no_room, room}
-use Rattle.values.proofs.Mapped.{mapped_push}
+use Rattle.values.specs.declared.name.Name.{Name}
+use Rattle.values.proofs.Lookups.{pushed_first, pushed_distinct}
 use Rattle.values.proofs.names.Names.intern.Goals as goal
 
-pub returns-then-number-ge-MOST_NAMES : goal.returns-then-number-ge-MOST_NAMES
-returns-then-number-ge-MOST_NAMES c =
+pub invariant_of-self-2 : goal.invariant_of-self-2
+invariant_of-self-2 c =
     let names = c.args.self.now in
-    let long = counted names in
-    let r = refused (held names) c.args.word.now c.in_default.ensures.value (no_room (held names) c.args.word.now (omega arith)) in
-    record { answer = r.0; after = r.1 }
-
-pub invariant_of-self : goal.invariant_of-self
-invariant_of-self c =
-    let names = c.args.self.now in
-    let grown = mapped_push spelling (vec_items names.list) _ c.in-Some-new.name c.args.word.now c.push_reserved.ensures.items c.in-Some-new.ensures in
+    let name = c.in_ok-new.field-0 in
+    let grown : map spelling (names.list ++ name ∷ []) ≡ held names ++ c.args.word.now ∷ [] = map-append spelling names.list (name ∷ []) ∙ ap (λ w. held names ++ w ∷ []) c.in_ok-new.ensures in
+    let keeps = λ (P : List Name → Type 0) (old : P names.list) (new : P (names.list ++ name ∷ [])). pushed_keeps P names.list c.push.new.self name c.push.result c.push.ensures.ok c.push.ensures.err old new in
     record {
-      reserved = search rules;
-      few = search rules;
-      nil = ap (λ l. get_or l 0 []) grown ∙ pushed_first (held names) _ names.nil;
-      distinct = subst Distinct (sym grown) (pushed_distinct (held names) c.args.word.now names.distinct c.in_default.ensures.law);
+      nil = keeps (λ ns. get_or (map spelling ns) 0 [] ≡ codes "nil") names.nil (ap (λ l. get_or l 0 []) grown ∙ pushed_first (held names) _ names.nil);
+      distinct = keeps (λ ns. Distinct (map spelling ns)) names.distinct (subst Distinct (sym grown) (pushed_distinct (held names) c.args.word.now names.distinct c.in_default.ensures.law));
     }
-
-pub returns : goal.returns
-returns c =
-    let names = c.args.self.now in
-    let grown = mapped_push spelling (vec_items names.list) _ c.in-Some-new.name c.args.word.now c.push_reserved.ensures.items c.in-Some-new.ensures in
-    let long = counted names in
-    let fits = ap length c.in-Some-new.ensures in
-    let a = added (held names) c.args.word.now c.in_default.ensures.value (room (held names) c.args.word.now (omega arith) (search rules) (search rules)) in
-    record { answer = ap Some (c.len-number.ensures ∙ sym long) ∙ a.0; after = grown ∙ a.1 }
