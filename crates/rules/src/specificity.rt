@@ -45,7 +45,9 @@ fn mark_test(met: &mut [bool; 16], test: &Test)
     ensures { met.new ≡ mark_test met.old (test_of test.now) }
 {
     match test {
-        Test::Variable(variable) | Test::CompareVariable(_, variable) => mark_variable(met, *variable),
+        Test::Variable(variable) | Test::CompareVariable(_, variable) => mark_variable(
+            met, *variable,
+        ),
         Test::Constant(_) | Test::Compare(_, _) | Test::Choice(_) => {}
     }
 }
