@@ -6,7 +6,6 @@ use Rattle.rules.specs.Bases.{entering_rules, after_enter}
 use Rattle.rules.specs.Rules.{Rule}
 use Rattle.rules.specs.Sizes.{size_of_all, excessive}
 use Rattle.rules.specs.declared.base.Entering.{Entering}
-use Rattle.rules.proofs.Entered.{sized}
 use Rattle.languages.specs.Languages.{Takes, longest}
 use Rattle.languages.specs.Machines.{run}
 use Rattle.productions.specs.declared.draft.Draft.{Draft}
@@ -26,7 +25,7 @@ not_drafted cs rs ns ms os ls after left end d NoMemory r n a = (n, a)
 
 -- the rules of a base keep its limits
 pub within-limits : (b : Entering) → excessive (size_of_all (entering_rules b)) ≡ false
-within-limits b = subst (λ s. excessive s ≡ false) (sized b) b.roomy
+within-limits b = b.rules.roomy
 
 -- a production that was read is fit, and there is room for it
 pub taken-fit : (cs : List Declared) (rs : List Rule) (ns ms : List (List ℕ)) (ls after : List Lexeme) (r : Rule) → excessive (size_of_all rs) ≡ false → Takes (production_script cs rs ns) ls (r, ms) after → Fit rs r
