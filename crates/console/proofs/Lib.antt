@@ -1,2 +1,2 @@
-mod Turns
+mod Headed
 mod Going

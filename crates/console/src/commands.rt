@@ -6,14 +6,12 @@ ghost use Rattle.rules.specs.Declarations.{classes_of};
 ghost use Rattle.console.specs.Printed.{Appends};
 ghost use Rattle.console.specs.Performed.{answer_removing, after_removing, after_command, Prints};
 
-use crate::lines::write_memory_refusal;
-use crate::listing::write_memory;
+use crate::lines::{Legend, write_memory_refusal};
+use crate::page::Page;
 use facts::refusal::MemoryRefusal;
 use facts::traits::Memory;
 use reader::form::Command;
-use rules::classes::Classes;
-use std::alloc::{AllocError, Global};
-use values::names::Names;
+use std::alloc::AllocError;
 
 // Removes the element with a time tag. A number below 1 counts as a tag that no element has.
 fn remove<M: Memory>(memory: &mut M, tag: i32) -> Result<(), MemoryRefusal>
@@ -28,29 +26,25 @@ fn remove<M: Memory>(memory: &mut M, tag: i32) -> Result<(), MemoryRefusal>
 
 // Performs a command, and writes what it prints.
 pub(crate) fn perform<M: Memory>(
-    heap: Global,
-    out: &mut Vec<u8>,
-    names: &Names,
-    classes: &Classes,
+    page: &mut Page,
+    legend: &Legend,
     memory: &mut M,
     command: Command,
 ) -> Result<(), AllocError>
     ensures after { meant M.Facts.facts M.Memory.last M.Memory.room memory.new ≡ after_command (meant M.Facts.facts M.Memory.last M.Memory.room memory.old) command }
-    ensures prints { OnOk result (Appends out.old.items out.new.items (Prints (held names.now) (classes_of classes.now) (meant M.Facts.facts M.Memory.last M.Memory.room memory.old) command)) }
+    ensures prints { OnOk result (Appends page.old page.new (Prints (held legend.now.names.now) (classes_of legend.now.classes.now) (meant M.Facts.facts M.Memory.last M.Memory.room memory.old) command)) }
 {
-    match command {
-        Command::Make(element) => match memory.add(&element) {
-            Ok(_) => Ok(()),
-            Err(refusal) => write_memory_refusal(heap, out, refusal),
-        },
-        Command::Remove(tag) => match remove(memory, tag) {
-            Ok(()) => Ok(()),
-            Err(refusal) => write_memory_refusal(heap, out, refusal),
-        },
+    let answer = match command {
+        Command::Make(element) => memory.add(&element).map(|_tag| ()),
+        Command::Remove(tag) => remove(memory, tag),
         Command::RemoveAll => {
             memory.clear();
             Ok(())
         }
-        Command::ListMemory => write_memory(heap, out, names, classes, memory),
+        Command::ListMemory => return legend.write_memory(page, memory),
+    };
+    match answer {
+        Ok(()) => Ok(()),
+        Err(refusal) => write_memory_refusal(page, refusal),
     }
 }

@@ -4,5 +4,5 @@
 mod commands;
 mod lines;
 mod listing;
-mod numbers;
+mod page;
 pub mod run;

@@ -9,12 +9,13 @@ ghost use Rattle.console.specs.Printed.{Appends};
 ghost use Rattle.console.specs.Sessions.{reached, DeclaresAll, left, Commands, Session};
 
 use crate::commands::perform;
-use crate::lines::write_reader_refusal;
+use crate::lines::{Legend, write_reader_refusal};
+use crate::page::Page;
 use facts::fact::Fact;
 use facts::plain::PlainMemory;
 use facts::traits::{MOST_ELEMENTS, Memory};
+use languages::refusal::Refusal;
 use reader::read::{read_command, read_declaration};
-use reader::refusal::Refusal;
 use rules::base::{Declaring, Sealed};
 use std::alloc::{AllocError, Global};
 use values::element::Element;
@@ -32,24 +33,24 @@ fn declare_all(words: &mut Words, names: &mut Names, base: &mut Declaring) -> Re
 
 // Reads every command and performs it; a refused form ends the session.
 fn command_all<M: Memory>(
-    heap: Global,
-    out: &mut Vec<u8>,
+    page: &mut Page,
     words: &mut Words,
     names: &mut Names,
     base: &Sealed,
     memory: &mut M,
 ) -> Result<(), AllocError>
-    ensures { OnOk result (Appends out.old.items out.new.items (Commands (length (text_of words.old)) (sealed_classes base.now) (left (held names.old) (rest words.old) (meant M.Facts.facts M.Memory.last M.Memory.room memory.old)) (left (held names.new) (rest words.new) (meant M.Facts.facts M.Memory.last M.Memory.room memory.new)))) }
+    ensures { OnOk result (Appends page.old page.new (Commands (length (text_of words.old)) (sealed_classes base.now) (left (held names.old) (rest words.old) (meant M.Facts.facts M.Memory.last M.Memory.room memory.old)) (left (held names.new) (rest words.new) (meant M.Facts.facts M.Memory.last M.Memory.room memory.new)))) }
 {
     loop {
         let next = match read_command(words, names, base) {
             Ok(next) => next,
-            Err(refusal) => return write_reader_refusal(heap, out, refusal),
+            Err(refusal) => return write_reader_refusal(page, refusal),
         };
-        match next {
-            Some(command) => perform(heap, out, names, base.classes(), memory, command)?,
-            None => return Ok(()),
-        }
+        let Some(command) = next else {
+            return Ok(());
+        };
+        let classes = base.classes();
+        perform(page, &Legend { names, classes }, memory, command)?;
     }
 }
 
@@ -68,17 +69,17 @@ fn empty_place() -> Fact
 pub fn run(heap: Global, text: &[u8]) -> Result<Vec<u8>, AllocError>
     ensures { IfOk result (λ out. Session text.now out.items) }
 {
-    let mut out = Vec::new(heap);
+    let mut page = Page::new(heap);
     let mut words = Words::new(text);
     let mut names = Names::new(heap)?;
     let mut base = Declaring::new(heap)?;
     if let Err(refusal) = declare_all(&mut words, &mut names, &mut base) {
-        write_reader_refusal(heap, &mut out, refusal)?;
-        return Ok(out);
+        write_reader_refusal(&mut page, refusal)?;
+        return Ok(page.into_bytes());
     }
     let base = base.enter().seal();
     let mut places = vec![in heap; empty_place(); MOST_ELEMENTS]?;
     let mut memory = PlainMemory::new(&mut places, 0);
-    command_all(heap, &mut out, &mut words, &mut names, &base, &mut memory)?;
-    Ok(out)
+    command_all(&mut page, &mut words, &mut names, &base, &mut memory)?;
+    Ok(page.into_bytes())
 }

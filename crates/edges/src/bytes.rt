@@ -1,6 +1,7 @@
 // Every byte, in several places.
 use crate::expect::*;
 use std::test::Fail;
+use texts::*;
 
 // Some bytes that no word has.
 const STRANGE: [Case; 12] = [
@@ -63,11 +64,11 @@ fn every_byte(rt: HostRuntime) -> Result<(), Fail> {
     let heap = rt.alloc();
     for byte in 0..=255u8 {
         let filler = [byte];
-        expect(&rt, heap, &filler, alone(byte))?;
+        expect(&rt, &filler, alone(byte))?;
         let word = filled(heap, b"(literalize a_b)(make a)(wm)", &filler)?;
-        expect(&rt, heap, &word, within(byte))?;
+        expect(&rt, &word, within(byte))?;
         let comment = filled(heap, b";_\n(remove 1);_", &filler)?;
-        expect(&rt, heap, &comment, b"refused 8 memory - -\n")?;
+        expect(&rt, &comment, b"refused 8 memory - -\n")?;
     }
-    expect_all(&rt, heap, &STRANGE)
+    expect_all(&rt, &STRANGE)
 }

@@ -1,6 +1,7 @@
 // Makes, working memory, and which form may come when.
 use crate::expect::*;
 use std::test::Fail;
+use texts::*;
 
 // After `(literalize a x)(literalize b y z)`, which has 34 bytes.
 const MAKES: [Case; 32] = [
@@ -210,27 +211,22 @@ const PHASES: [Case; 45] = [
 
 #[test]
 fn makes(rt: HostRuntime) -> Result<(), Fail> {
-    expect_after(
-        &rt,
-        rt.alloc(),
-        b"(literalize a x)(literalize b y z)",
-        &MAKES,
-    )
+    expect_after(&rt, b"(literalize a x)(literalize b y z)", &MAKES)
 }
 
 #[test]
 fn memory(rt: HostRuntime) -> Result<(), Fail> {
     let heap = rt.alloc();
-    expect_all(&rt, heap, &MEMORY)?;
-    let elements = repeated(heap, b"(make a)", 256)?;
+    expect_all(&rt, &MEMORY)?;
+    let elements = b"(make a)".repeat(heap, 256)?;
     let full = joined(heap, b"(literalize a)", &elements)?;
-    expect_after(&rt, heap, &full, &AFTER_FULL)?;
+    expect_after(&rt, &full, &AFTER_FULL)?;
     let listed = joined(heap, &full, b"(wm)")?;
-    let lines = numbered(heap, b"_: (a)\n", 1, 256)?;
-    expect(&rt, heap, &listed, &lines)
+    let lines = numbered(heap, b"_: (a)\n", 1..257)?;
+    expect(&rt, &listed, &lines)
 }
 
 #[test]
 fn phases(rt: HostRuntime) -> Result<(), Fail> {
-    expect_all(&rt, rt.alloc(), &PHASES)
+    expect_all(&rt, &PHASES)
 }

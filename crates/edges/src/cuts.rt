@@ -1,8 +1,9 @@
 // Forms that are cut off.
 use crate::expect::*;
-use std::alloc::Global;
+use std::alloc::AllocGlobal;
 use std::process::Abort;
 use std::test::Fail;
+use texts::*;
 
 // A word of a form, from its first byte to past its last, of which no proper beginning may stand there: such a beginning
 // is refused by this number.
@@ -83,16 +84,16 @@ fn refusal_of(cut: usize, words: &[Wrong]) -> (u8, usize) {
 
 // The form is refused if it is cut off after any byte but its last.
 fn expect_cuts(
-    rt: &impl Abort,
-    heap: Global,
+    rt: &(impl Abort + AllocGlobal),
     before: &[u8],
     form: &[u8],
     words: &[Wrong],
 ) -> Result<(), Fail> {
+    let heap = rt.alloc();
     for cut in 1..form.len() {
         let text = joined(heap, before, &form[0..cut])?;
         let (number, place) = refusal_of(cut, words);
-        expect_refused(rt, heap, &text, number, place.saturating_add(before.len()))?;
+        expect_refused(rt, &text, number, place.saturating_add(before.len()))?;
     }
     Ok(())
 }
@@ -101,10 +102,10 @@ fn expect_cuts(
 fn cut_off(rt: HostRuntime) -> Result<(), Fail> {
     let heap = rt.alloc();
     for (before, form, words, printed) in &FORMS {
-        expect(&rt, heap, before, b"")?;
-        expect_cuts(&rt, heap, before, form, words)?;
+        expect(&rt, before, b"")?;
+        expect_cuts(&rt, before, form, words)?;
         let whole = joined(heap, before, form)?;
-        expect(&rt, heap, &whole, printed)?;
+        expect(&rt, &whole, printed)?;
     }
     Ok(())
 }

@@ -1,6 +1,7 @@
 // Classes and attributes.
 use crate::expect::*;
 use std::test::Fail;
+use texts::*;
 
 const DECLARED: [Case; 30] = [
     // Attributes.
@@ -115,7 +116,7 @@ const AFTER_SIXTEEN: [Case; 8] = [
 #[test]
 fn declared(rt: HostRuntime) -> Result<(), Fail> {
     let heap = rt.alloc();
-    expect_all(&rt, heap, &DECLARED)?;
-    let sixteen = numbered(heap, b"(literalize c_ x_)", 0, 15)?;
-    expect_after(&rt, heap, &sixteen, &AFTER_SIXTEEN)
+    expect_all(&rt, &DECLARED)?;
+    let sixteen = numbered(heap, b"(literalize c_ x_)", 0..16)?;
+    expect_after(&rt, &sixteen, &AFTER_SIXTEEN)
 }

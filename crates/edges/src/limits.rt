@@ -2,6 +2,7 @@
 use crate::expect::*;
 use std::alloc::{AllocError, Global};
 use std::test::Fail;
+use texts::*;
 
 // Each `_` is a name of 24 bytes, and `_y` one of 25.
 const NAMES: [Case; 12] = [
@@ -57,35 +58,34 @@ fn names(rt: HostRuntime) -> Result<(), Fail> {
     for (text, printed) in &NAMES {
         let whole = filled(heap, text, b"abcdefghijklmnopqrstuvwx")?;
         let line = filled(heap, printed, b"abcdefghijklmnopqrstuvwx")?;
-        expect(&rt, heap, &whole, &line)?;
+        expect(&rt, &whole, &line)?;
     }
     let form = b"(literalize c_ a_ b_ d_ e_ f_ g_ h_ i_ j_ k_ l_ m_ n_ o_ p_)";
-    let fifteen = numbered(heap, form, 0, 14)?;
-    expect_after(&rt, heap, &fifteen, &AFTER_FIFTEEN)?;
+    let fifteen = numbered(heap, form, 0..15)?;
+    expect_after(&rt, &fifteen, &AFTER_FIFTEEN)?;
     let all = joined(
         heap,
         &fifteen,
         b"(literalize z a b c d e f g h i j k l m n)",
     )?;
-    expect_after(&rt, heap, &all, &AFTER_ALL)
+    expect_after(&rt, &all, &AFTER_ALL)
 }
 
 // 253 values beside `nil`, the class and the attribute. A make that a full memory refuses keeps its names.
 #[test]
 fn names_of_values(rt: HostRuntime) -> Result<(), Fail> {
     let heap = rt.alloc();
-    let values = numbered(heap, b"(make a ^x v_)", 0, 252)?;
+    let values = numbered(heap, b"(make a ^x v_)", 0..253)?;
     let known = joined(heap, b"(literalize a x)", &values)?;
     expect_after(
         &rt,
-        heap,
         &known,
         &[(
             b"(make a ^x v252)(make a ^x new)",
             b"refused 6 reader 3981\n",
         )],
     )?;
-    let elements = repeated(heap, b"(make a)", 256)?;
+    let elements = b"(make a)".repeat(heap, 256)?;
     let full = joined(heap, b"(literalize a x)", &elements)?;
     let refused = joined(heap, &full, &values)?;
     let text = joined(
@@ -93,26 +93,9 @@ fn names_of_values(rt: HostRuntime) -> Result<(), Fail> {
         &refused,
         b"(remove *)(make a ^x v252)(wm)(make a ^x new)",
     )?;
-    let lines = repeated(heap, b"refused 11 memory - -\n", 253)?;
+    let lines = b"refused 11 memory - -\n".repeat(heap, 253)?;
     let printed = joined(heap, &lines, b"257: (a ^x v252)\nrefused 6 reader 6043\n")?;
-    expect(&rt, heap, &text, &printed)
-}
-
-// The text of this length that has only the filler between its ends.
-fn stretched(
-    heap: Global,
-    begin: &[u8],
-    filler: u8,
-    end: &[u8],
-    length: usize,
-) -> Result<Vec<u8>, AllocError> {
-    let mut text = begin.to_vec(heap)?;
-    let ends = begin.len().saturating_add(end.len());
-    for _ in ends..length {
-        text.push(filler)?;
-    }
-    text.extend_from_slice(end)?;
-    Ok(text)
+    expect(&rt, &text, &printed)
 }
 
 // What a text begins with, what it is filled up with, what it ends with, and what it prints.
@@ -146,10 +129,10 @@ fn bytes_of_a_text(rt: HostRuntime) -> Result<(), Fail> {
     let heap = rt.alloc();
     for (begin, filler, end, printed) in &TEXTS {
         let longest = stretched(heap, begin, *filler, end, 32768)?;
-        expect(&rt, heap, &longest, printed)?;
+        expect(&rt, &longest, printed)?;
         let longer = stretched(heap, begin, *filler, end, 32769)?;
-        expect(&rt, heap, &longer, b"refused 6 reader 32768\n")?;
+        expect(&rt, &longer, b"refused 6 reader 32768\n")?;
     }
     let long = stretched(heap, b"", b' ', b"", 100000)?;
-    expect(&rt, heap, &long, b"refused 6 reader 32768\n")
+    expect(&rt, &long, b"refused 6 reader 32768\n")
 }

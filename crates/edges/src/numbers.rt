@@ -78,10 +78,9 @@ const ILLEGAL: [&[u8]; 37] = [
 
 #[test]
 fn values(rt: HostRuntime) -> Result<(), Fail> {
-    let heap = rt.alloc();
     for (word, shown) in &NUMBERS {
-        expect_value(&rt, heap, word, shown)?;
+        expect_value(&rt, word, shown)?;
     }
-    expect_symbols(&rt, heap, &SYMBOLS)?;
-    expect_each_refused(&rt, heap, b"(literalize a x)(make a ^x _)(wm)", &ILLEGAL, 1)
+    expect_symbols(&rt, &SYMBOLS)?;
+    expect_each_refused(&rt, b"(literalize a x)(make a ^x _)(wm)", &ILLEGAL, 1)
 }

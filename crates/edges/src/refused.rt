@@ -1,8 +1,8 @@
 // A refused form leaves the names, the classes and the words as they were.
 use reader::read::{read_command, read_declaration};
-use reader::refusal::Refusal;
+use languages::refusal::Refusal;
 use rules::base::Declaring;
-use std::alloc::Global;
+use std::alloc::AllocGlobal;
 use std::process::Abort;
 use std::test::Fail;
 use values::names::Names;
@@ -60,7 +60,7 @@ const COMMANDS: [Refused; 8] = [
 
 // The answer is the refusal with this number at this place.
 fn expect_refusal<T: Drop>(
-    rt: &impl Abort,
+    rt: &(impl Abort + AllocGlobal),
     text: &[u8],
     answer: Result<T, Refusal>,
     number: u8,
@@ -81,7 +81,7 @@ fn expect_refusal<T: Drop>(
 }
 
 // The names are as many as before, and the new one of the refused form is not among them.
-fn expect_kept(rt: &impl Abort, text: &[u8], names: &Names, count: usize) {
+fn expect_kept(rt: &(impl Abort + AllocGlobal), text: &[u8], names: &Names, count: usize) {
     assert_eq!(rt;
         (names.count(), names.find(b"fresh")),
         (count, None),
@@ -92,13 +92,13 @@ fn expect_kept(rt: &impl Abort, text: &[u8], names: &Names, count: usize) {
 
 // After this many declarations there is one that is refused, twice.
 fn expect_declared(
-    rt: &impl Abort,
-    heap: Global,
+    rt: &(impl Abort + AllocGlobal),
     text: &[u8],
     declared: usize,
     number: u8,
     place: usize,
 ) -> Result<(), Fail> {
+    let heap = rt.alloc();
     let mut words = Words::new(text);
     let mut names = Names::new(heap)?;
     let mut base = Declaring::new(heap)?;
@@ -117,13 +117,13 @@ fn expect_declared(
 
 // After `(literalize a x)` and this many commands there is one that is refused, twice.
 fn expect_commanded(
-    rt: &impl Abort,
-    heap: Global,
+    rt: &(impl Abort + AllocGlobal),
     text: &[u8],
     commands: usize,
     number: u8,
     place: usize,
 ) -> Result<(), Fail> {
+    let heap = rt.alloc();
     let mut words = Words::new(text);
     let mut names = Names::new(heap)?;
     let mut base = Declaring::new(heap)?;
@@ -145,12 +145,11 @@ fn expect_commanded(
 
 #[test]
 fn refused_forms(rt: HostRuntime) -> Result<(), Fail> {
-    let heap = rt.alloc();
     for (text, declared, number, place) in &DECLARATIONS {
-        expect_declared(&rt, heap, text, *declared, *number, *place)?;
+        expect_declared(&rt, text, *declared, *number, *place)?;
     }
     for (text, commands, number, place) in &COMMANDS {
-        expect_commanded(&rt, heap, text, *commands, *number, *place)?;
+        expect_commanded(&rt, text, *commands, *number, *place)?;
     }
     Ok(())
 }

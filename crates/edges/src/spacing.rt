@@ -1,6 +1,7 @@
 // Separators and comments, and words with nothing between them.
 use crate::expect::*;
 use std::test::Fail;
+use texts::*;
 
 // What may stand between any two words, and at both ends of a text.
 const FILLERS: [&[u8]; 12] = [
@@ -71,7 +72,7 @@ fn between_words(rt: HostRuntime) -> Result<(), Fail> {
             b"_(_literalize_a_x_)_(_make_a_^_x_7_)_(_wm_)_",
             filler,
         )?;
-        expect(&rt, heap, &text, b"1: (a ^x 7)\n")?;
+        expect(&rt, &text, b"1: (a ^x 7)\n")?;
     }
-    expect_all(&rt, heap, &ENDS)
+    expect_all(&rt, &ENDS)
 }

@@ -67,15 +67,13 @@ const SYMBOLS: [&[u8]; 28] = [
 
 #[test]
 fn taken_by_no_form(rt: HostRuntime) -> Result<(), Fail> {
-    let heap = rt.alloc();
     for form in &PLACES {
-        expect_each_refused(&rt, heap, form, &SPECIAL, 2)?;
-        expect_each_refused(&rt, heap, form, &ILLEGAL, 1)?;
+        expect_each_refused(&rt, form, &SPECIAL, 2)?;
+        expect_each_refused(&rt, form, &ILLEGAL, 1)?;
     }
-    expect_symbols(&rt, heap, &SYMBOLS)?;
+    expect_symbols(&rt, &SYMBOLS)?;
     expect(
         &rt,
-        heap,
         b"(literalize <x x>)(make <x ^x> =<)(wm)",
         b"1: (<x ^x> =<)\n",
     )

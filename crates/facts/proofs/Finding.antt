@@ -1,27 +1,21 @@
 -- The first place that has a time tag. Assumes nothing.
-use Rattle.std.proofs.Common.{◌≡◌, ℕ, zero, suc, ◌+◌, ◌<◌, ◌≤◌, eqb, ◌↔◌, List, [], ◌∷◌, ◌++◌, length, drop, Some, None, Option, sym, refl, ap, ◌∙◌, subst, ⊎_elim, add-one, arith}
-use Rattle.std.proofs.lemmas.List.{at_drop_all}
+use Rattle.std.proofs.Common.{◌≡◌, ℕ, zero, suc, ◌+◌, ◌<◌, eqb, ◌↔◌, List, [], ◌∷◌, ◌++◌, length, Some, None, Option, sym, refl, ap, ◌∙◌, subst, ⊎_elim, add-zero, zero-add, Bool, cond, arith}
+use Rattle.std.specs.List.{find, range_with_len}
 use Rattle.std.proofs.lemmas.Bool.{cond_both, eq-eqb, ne_eqb, eqb-true, eqb-false, cases_order}
 use Rattle.facts.specs.declared.fact.Fact.{Fact}
 use Rattle.facts.specs.Model.{tag_at, find_from, find_tag}
 use Rattle.facts.specs.Laws.{Lacks, FirstAt, Found}
 
--- the search from place i on, at a place that has the tag, at one that has not, and past the last
-pub hit : (n : ℕ) (fs : List Fact) (i t : ℕ) → i < length fs → tag_at fs i ≡ t → find_from n (drop i fs) t ≡ Some n
-hit n [] i t lt e = absurd (omega arith)
-hit n (f ∷ fs) zero t lt e = rw (eq-eqb f.tag t e)
-hit n (f ∷ fs) (suc i) t lt e = hit n fs i t (omega arith) e
+-- looking through the places is looking through the pairs, where the first place is numbered n
+find_at_places : (n t : ℕ) (fs : List Fact) (is : ℕ → Bool) → ((k : ℕ) → k < length fs → is (n + k) ≡ eqb (tag_at fs k) t) → find is (range_with_len n (length fs)) ≡ find_from n fs t
+find_at_places n t [] is h = refl
+find_at_places n t (f ∷ fs) is h =
+    let here : is n ≡ eqb f.tag t = ap is (sym (add-zero n)) ∙ h 0 (omega arith) in
+    let rest = find_at_places (n + 1) t fs is (λ k lt. ap is (omega arith) ∙ h (suc k) (omega arith)) in
+    λ i. cond (here i) (Some n) (rest i)
 
-miss_suc : (n : ℕ) (fs : List Fact) (i t : ℕ) → i < length fs → (tag_at fs i ≡ t → ⊥) → find_from (n + 1) (drop (suc i) fs) t ≡ find_from n (drop i fs) t
-miss_suc n [] i t lt e = absurd (omega arith)
-miss_suc n (f ∷ fs) zero t lt e = rw (ne_eqb f.tag t e)
-miss_suc n (f ∷ fs) (suc i) t lt e = miss_suc n fs i t (omega arith) e
-
-pub miss : (n : ℕ) (fs : List Fact) (i t : ℕ) → i < length fs → (tag_at fs i ≡ t → ⊥) → find_from (n + 1) (drop (i + 1) fs) t ≡ find_from n (drop i fs) t
-miss n fs i t lt e = ap (λ k. find_from (n + 1) (drop k fs) t) (add-one i) ∙ miss_suc n fs i t lt e
-
-pub none : (n : ℕ) (fs : List Fact) (i t : ℕ) → length fs ≤ i → find_from n (drop i fs) t ≡ None
-none n fs i t le = at_drop_all (λ l. find_from n l t) fs i le
+pub find_places : (fs : List Fact) (t : ℕ) → find (λ k. eqb (tag_at fs k) t) (range_with_len 0 (length fs)) ≡ find_tag fs t
+find_places fs t = find_at_places 0 t fs (λ k. eqb (tag_at fs k) t) (λ k lt. ap (λ j. eqb (tag_at fs j) t) (zero-add k))
 
 -- what the search finds, where the list's first place is numbered n
 abbrev FoundFrom : ℕ → List Fact → ℕ → Option ℕ → Type 0

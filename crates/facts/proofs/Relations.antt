@@ -1,6 +1,7 @@
 -- The functions of the model say exactly the relations of the laws. Assumes nothing.
-use Rattle.std.proofs.Common.{◌≡◌, ℕ, zero, suc, ◌+◌, Bool, true, false, cond, eqb, leb, List, [], ◌∷◌, ◌++◌, length, Some, None, Ok, Err, Option, Result, sym, refl, ap, ◌∙◌, subst, arith}
+use Rattle.std.proofs.Common.{◌≡◌, ℕ, zero, suc, ◌+◌, ◌-◌, Bool, true, false, cond, eqb, leb, List, [], ◌∷◌, ◌++◌, length, Some, None, Ok, Err, Option, Result, sym, refl, ap, ◌∙◌, subst, arith}
 use Rattle.std.specs.List.{remove}
+use Rattle.std.proofs.lemmas.List.Edits.{remove-append_right}
 use Rattle.std.proofs.lemmas.Bool.{leb-true, leb-false, eqb-true, eqb-false, le-leb, lt-leb, eq-eqb}
 use Rattle.values.specs.declared.element.Element.{Element}
 use Rattle.facts.specs.declared.fact.Fact.{Fact}
@@ -88,8 +89,10 @@ removed-by m t (Some p) at =
 removed-by m t None lacks = (lacks, refl)
 
 removed-at : (front : List Fact) (gone : Fact) (back : List Fact) → remove (front ++ gone ∷ back) (length front) ≡ front ++ back
-removed-at [] gone back = refl
-removed-at (f ∷ front) gone back = ap (λ l. f ∷ l) (removed-at front gone back)
+removed-at front gone back =
+    let here : length front - length front ≡ 0 = omega arith in
+    remove-append_right front (gone ∷ back) (length front) (length front) refl (omega arith)
+    ∙ ap (λ k. front ++ remove (gone ∷ back) k) here
 
 removed-to : (m : Model) (t : ℕ) (r : Result (Unit {0}) MemoryRefusal) (m' : Model) → Removed m t r m' → (r ≡ answer_remove m t) × (m' ≡ after_remove m t)
 removed-to m t (Ok _) m' h =

@@ -9,9 +9,9 @@ use Rattle.facts.specs.declared.plain.PlainMemory.{PlainMemory}
 abbrev pub places_of : PlainMemory → List Fact
 places_of m = m.places.now
 
--- the pairs stand in the first places, of which at most 256 are used
+-- the pairs stand in the first places
 abbrev pub plain_facts : PlainMemory → List Fact
-plain_facts m = take (min m.count 256) (places_of m)
+plain_facts m = take m.count (places_of m)
 
 -- the last time tag that was given
 abbrev pub plain_last : PlainMemory → ℕ

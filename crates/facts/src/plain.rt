@@ -1,121 +1,16 @@
 // A memory over places that somebody lends.
-ghost use Rattle.std.specs.Prelude.{◌≡◌, min, [], length};
-ghost use Rattle.facts.specs.Model.{answer_add, after_add, answer_remove, after_remove, after_clear};
-ghost use Rattle.facts.specs.Plain.{places_of, plain_facts, plain_last, plain_room, plain_small, plain_model, RestKept};
+ghost use Rattle.std.specs.Prelude.{◌≤◌, length};
 
 use crate::fact::Fact;
-use crate::refusal::MemoryRefusal;
-use crate::traits::{Facts, LAST_TAG, MOST_ELEMENTS, Memory, place_of};
-use values::element::Element;
-use values::value::{NIL, Value};
 
-// The pairs stand in the first `count` places.
+// The pairs stand in the first `count` places, which somebody lends: a memory allocates nothing.
 #[derive(Drop)]
 pub struct PlainMemory<'a> {
     places: &'a mut [Fact],
     count: usize,
     last: u32,
+    ghost lent: { count ≤ length places.now },
+    ghost few: { count ≤ 256 },
 }
 
-impl<'a> PlainMemory<'a> {
-    // An empty memory over these places, of which it uses at most 256. The first element gets the tag after `last`.
-    pub fn new(places: &'a mut [Fact], last: u32) -> PlainMemory<'a>
-        ensures facts { plain_facts result ≡ [] }
-        ensures last { plain_last result ≡ last }
-        ensures room { plain_room result ≡ min (length places.old) 256 }
-        ensures places { places_of result ≡ places.old }
-    {
-        PlainMemory {
-            places,
-            count: 0,
-            last,
-        }
-    }
-}
-
-impl Facts for PlainMemory<'_> {
-    ghost facts = { plain_facts };
-
-    fn count(&self) -> usize {
-        self.count.min(self.places.len().min(MOST_ELEMENTS))
-    }
-
-    fn tag_at(&self, place: usize) -> u32 {
-        if place < self.count() {
-            self.places[place].tag
-        } else {
-            0
-        }
-    }
-
-    fn value_at(&self, place: usize, field: usize) -> Value {
-        if place < self.count() {
-            let element = self.places[place].element;
-            element.value(field)
-        } else {
-            NIL
-        }
-    }
-}
-
-// Each call also says what becomes of the places past the pairs: they are left as they were.
-impl Memory for PlainMemory<'_> {
-    ghost last = { plain_last };
-
-    ghost room = { plain_room };
-
-    ghost small = { plain_small };
-
-    fn capacity(&self) -> usize {
-        self.places.len().min(MOST_ELEMENTS)
-    }
-
-    fn last_tag(&self) -> u32 {
-        self.last
-    }
-
-    fn add(&mut self, element: &Element) -> Result<u32, MemoryRefusal>
-        ensures answer { result ≡ answer_add (plain_model self.old) }
-        ensures after { plain_model self.new ≡ after_add (plain_model self.old) element.now }
-        ensures rest { RestKept self.old self.new }
-    {
-        if self.last >= LAST_TAG {
-            return Err(MemoryRefusal::TagsUsedUp);
-        }
-        let count = self.count();
-        if count == self.capacity() {
-            return Err(MemoryRefusal::Full);
-        }
-        let tag = self.last + 1;
-        self.places[count] = Fact {
-            tag,
-            element: *element,
-        };
-        self.count = count + 1;
-        self.last = tag;
-        Ok(tag)
-    }
-
-    fn remove(&mut self, tag: u32) -> Result<(), MemoryRefusal>
-        ensures answer { result ≡ answer_remove (plain_model self.old) tag }
-        ensures after { plain_model self.new ≡ after_remove (plain_model self.old) tag }
-        ensures rest { RestKept self.old self.new }
-    {
-        let count = self.count();
-        match place_of(self, tag) {
-            Some(place) => {
-                self.places.copy_within(place + 1..count, place);
-                self.count = count - 1;
-                Ok(())
-            }
-            None => Err(MemoryRefusal::NoSuchTag),
-        }
-    }
-
-    fn clear(&mut self)
-        ensures after { plain_model self.new ≡ after_clear (plain_model self.old) }
-        ensures rest { RestKept self.old self.new }
-    {
-        self.count = 0;
-    }
-}
+mod methods;

@@ -1,15 +1,15 @@
-// Why a memory does not do what it is asked.
+// Why a memory does not do what it is asked. Each refusal is told by its number.
 ghost use Rattle.std.specs.Prelude.{◌≡◌};
 ghost use Rattle.facts.specs.Model.{refusal_number};
 
 #[derive(Clone, Copy, PartialEq, Eq, Debug)]
 pub enum MemoryRefusal {
     // No element has the time tag.
-    NoSuchTag,
+    NoSuchTag = 8,
     // The last time tag is the highest that there is.
-    TagsUsedUp,
+    TagsUsedUp = 10,
     // As many elements are there as the memory can hold.
-    Full,
+    Full = 11,
 }
 
 impl MemoryRefusal {
@@ -17,10 +17,6 @@ impl MemoryRefusal {
     pub fn number(self) -> u8
         ensures { result ≡ refusal_number self }
     {
-        match self {
-            MemoryRefusal::NoSuchTag => 8,
-            MemoryRefusal::TagsUsedUp => 10,
-            MemoryRefusal::Full => 11,
-        }
+        self as u8
     }
 }

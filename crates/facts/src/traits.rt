@@ -33,7 +33,8 @@ pub trait Facts {
 }
 
 // Facts that can be added and removed. What a call leaves is said of all three parts at once: the pairs, the last
-// time tag and the capacity.
+// time tag and the capacity. `meant` puts them together in each clause: one more ghost member for all three would need a
+// law that says what it is, and its proof in each memory.
 pub trait Memory: Facts {
     // The last time tag that was given.
     ghost last: { Self → ℕ };
@@ -71,17 +72,10 @@ pub trait Memory: Facts {
 pub fn place_of<F: Facts>(facts: &F, tag: u32) -> Option<usize>
     ensures { result ≡ find_tag (F.Facts.facts facts.now) tag }
 {
-    for i in 0..facts.count() {
-        if facts.tag_at(i) == tag {
-            return Some(i);
-        }
-    }
-    None
+    (0..facts.count()).find(|place| facts.tag_at(*place) == tag)
 }
 
-// What the equations of the clauses above say of every memory. The number is of no use.
-pub fn memory_laws() -> u8
+// What the equations of the clauses above say of every memory.
+pub fn memory_laws()
     ensures { MemoryLaws }
-{
-    0
-}
+{}

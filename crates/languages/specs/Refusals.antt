@@ -1,7 +1,7 @@
 -- The numbers of a reader's refusals. Assumes nothing.
 use Rattle.std.specs.Prelude.{ℕ}
-use Rattle.rules.specs.declared.class.ClassRefusal.{ClassRefusal}
-use Rattle.rules.specs.declared.class.ClassRefusal.TheVariants.{Twice, TooMany}
+use Rattle.rules.specs.declared.refusal.NotTaken.{NotTaken}
+use Rattle.rules.specs.declared.refusal.NotTaken.TheVariants.{Twice, TooMany}
 use Rattle.languages.specs.declared.refusal.Cause.{Cause}
 use Rattle.languages.specs.declared.refusal.Cause.TheVariants.{IllegalWord, UnexpectedWord, WrongName, WrongVariable, NoSuchCondition, OverLimit}
 
@@ -26,6 +26,6 @@ cause_of no_such_condition = NoSuchCondition
 cause_of over_limit = OverLimit
 
 -- the cause of a class or attribute that is not taken
-abbrev pub class_cause : ClassRefusal → Cause
+abbrev pub class_cause : NotTaken → Cause
 class_cause Twice = WrongName
 class_cause TooMany = OverLimit

@@ -5,7 +5,7 @@ ghost use Rattle.languages.specs.Machines.{refused_with};
 ghost use Rattle.languages.specs.Refusals.{cause_number, class_cause};
 ghost use Rattle.languages.specs.Senses.{sense};
 
-use rules::class::ClassRefusal;
+use rules::refusal::NotTaken;
 use words::token::Token;
 
 // Why a form is refused, by the number that the refusal is known by.
@@ -44,13 +44,13 @@ impl Cause {
 }
 
 // Why a class or an attribute is not taken.
-impl From<ClassRefusal> for Cause {
+impl From<NotTaken> for Cause {
     ghost from_gives = { λ refusal cause. cause ≡ class_cause refusal };
 
-    fn from(refusal: ClassRefusal) -> Cause {
+    fn from(refusal: NotTaken) -> Cause {
         match refusal {
-            ClassRefusal::Twice => Cause::WrongName,
-            ClassRefusal::TooMany => Cause::OverLimit,
+            NotTaken::Twice => Cause::WrongName,
+            NotTaken::TooMany => Cause::OverLimit,
         }
     }
 }

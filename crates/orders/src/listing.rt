@@ -4,8 +4,8 @@ ghost use Rattle.orders.specs.Headings.{HeadingAbove};
 
 use crate::order::Order;
 
-// What an element is listed by: its class symbol and its time tag.
-#[derive(Clone, Copy)]
+// What an element is listed by: its class symbol and its time tag. Headings compare by the class, and of one class by the tag.
+#[derive(Clone, Copy, PartialEq, Eq, PartialOrd, Ord, Debug)]
 pub struct Heading {
     pub class: u8,
     pub tag: u32,
@@ -23,6 +23,6 @@ impl Order for Listing {
     ghost laws = { λ _. heading_laws };
 
     fn stands_above(&self, a: &Heading, b: &Heading) -> bool {
-        a.class < b.class || (a.class == b.class && a.tag < b.tag)
+        a < b
     }
 }

@@ -1,113 +1,134 @@
--- From the turns of the code to what it answers. Assumes nothing.
-use Rattle.std.proofs.Common.{◌≡◌, ℕ, ◌+◌, ◌<◌, ◌≤◌, max, Bool, true, false, cond, not, ◌||◌, leb, List, [], ◌∷◌, ◌++◌, length, take, is_some, Some, None, Ok, Err, Option, unwrap_or, sym, refl, ap, ◌∙◌, subst, append_assoc, zero-add, arith}
+-- From the outcome of a reading to the answers of the calls. Assumes nothing.
+use Rattle.std.proofs.Common.{◌≡◌, ℕ, ◌<◌, ◌≤◌, Bool, true, false, cond, not, ◌||◌, leb, List, [], ◌∷◌, ◌++◌, length, set, is_some, Some, None, Err, Option, unwrap_or, sym, refl, ap, ◌∙◌, subst, inr, arith}
 use Rattle.std.proofs.lemmas.Bool.{cond-false}
+use Rattle.words.specs.declared.text.Words.{Words}
+use Rattle.words.specs.Words.{Lexeme, rest, text_of}
+use Rattle.values.specs.declared.value.Value.{Value}
+use Rattle.values.specs.Elements.{blank}
 use Rattle.values.specs.Naming.{answer_intern, after_intern}
+use Rattle.rules.specs.Attributes.{Declared, declared, new_class, with_attribute}
+use Rattle.rules.specs.declared.class.Class.{Class}
 use Rattle.rules.specs.Declarations.{find_class, after_declare}
-use Rattle.reader.specs.declared.form.Phase.TheVariants.{Declaring}
-use Rattle.reader.specs.Refusals.{wrong_name, over_limit}
-use Rattle.std.proofs.lemmas.List.{take-append-le, take_all}
-use Rattle.words.specs.Words.{Lexeme}
-use Rattle.rules.specs.Attributes.{Declared, new_class}
+use Rattle.languages.specs.declared.refusal.Cause.{Cause}
+use Rattle.languages.specs.declared.refusal.Refusal.{Refusal}
+use Rattle.languages.specs.Languages.{Takes, TakesNone, Broken, longest}
+use Rattle.languages.specs.Machines.{taken, stopped, run, place_of}
+use Rattle.languages.specs.Naming.{numbered, class_at, class_named, field_named, value_of, after_value}
+use Rattle.languages.specs.Refusals.{wrong_name, over_limit}
+use Rattle.languages.specs.Scripts.{judged_in, asked_by}
+use Rattle.languages.proofs.Alike.{alike-sym, takes-too, none-too, broken-too}
 use Rattle.reader.specs.declared.form.Phase.{Phase}
+use Rattle.reader.specs.declared.form.Phase.TheVariants.{Declaring, Commanding}
+use Rattle.reader.specs.declared.form.Command.{Command}
 use Rattle.reader.specs.declared.form.Taken.{Taken}
-use Rattle.reader.specs.declared.refusal.Cause.{Cause}
-use Rattle.reader.specs.declared.refusal.Refusal.{Refusal}
-use Rattle.reader.specs.Senses.{sense}
-use Rattle.reader.specs.Forms.{Form, declaration, make, remove, remove_all, list_memory, Allowed, Entry, declares, commands, numbered, class_at, Judged, judged, Faultless, with_attributes, meant}
-use Rattle.reader.specs.Machine.{State, opening, onward, whole, fails, turned, Outcome, taken, stopped, on_step, run}
-use Rattle.reader.specs.Meaning.{entry_of, Grows, place_of, class_in}
-use Rattle.reader.specs.Reading.{Spells, Takes, Broken, Reads}
-use Rattle.reader.proofs.Sofar.{Stopped, Tells, told, stopped_none}
+use Rattle.reader.specs.declared.form.Taken.TheVariants.{Declaration, Commanded}
+use Rattle.reader.specs.Meaning.{entry_of}
+use Rattle.reader.specs.Forms.{Setting, one, every, CommandForm, make, remove, list_memory, Entry, declares, commands, Asked, attributes_script, declaration_script, settings_script, command_script}
+use Rattle.reader.specs.Machine.{opening, turned}
+use Rattle.reader.specs.Reading.{script_of, Reads, declares_next, ReadsDeclaration}
+use Rattle.reader.proofs.Numbered.{declaration_by_number, alike, asked-alike}
+use Rattle.reader.proofs.Rests.{takes, none, broken, fewer}
 
--- a word that leads on
-pub went_on : (ph : Phase) (cs : List Declared) (ns ms : List (List ℕ)) (s t : State) (l : Lexeme) (ls before : List Lexeme) (o : Outcome) → before ≡ l ∷ ls → onward t ms ≡ turned ph cs ns s (sense l.kind) → run ph cs ns s before ≡ o → run ph cs ms t ls ≡ o
-went_on ph cs ns ms s t l ls before o b e h =
-    ap (λ x. on_step x (λ t ms. run ph cs ms t ls) (λ e ms. taken e ms ls) (λ c. stopped c (l ∷ ls))) e ∙ ap (run ph cs ns s) (sym b) ∙ h
+-- ---- what a reading's outcome says of the words
 
--- the last word of a form
-pub ended_with : (ph : Phase) (cs : List Declared) (ns ms : List (List ℕ)) (s : State) (e : Entry) (l : Lexeme) (ls before : List Lexeme) (o : Outcome) → before ≡ l ∷ ls → whole e ms ≡ turned ph cs ns s (sense l.kind) → run ph cs ns s before ≡ o → o ≡ taken e ms ls
-ended_with ph cs ns ms s e l ls before o b t h =
-    sym h ∙ ap (run ph cs ns s) b ∙ ap (λ x. on_step x (λ t ms. run ph cs ms t ls) (λ e ms. taken e ms ls) (λ c. stopped c (l ∷ ls))) (sym t)
+pub took : (ph : Phase) (cs : List Declared) (ns : List (List ℕ)) (ls : List Lexeme) (e : Asked) (after : List Lexeme) → run (turned cs) (opening ph ns) ls ≡ taken e after → Takes (script_of ph cs ns) ls e after
+took Declaring cs ns ls e after h =
+    takes-too (declaration_by_number cs ns) (declaration_script cs ns) (alike cs ns) (asked-alike cs ns) ls e after (takes cs (opening Declaring ns) ls e after h)
+took Commanding cs ns ls e after h = takes cs (opening Commanding ns) ls e after h
 
--- a word that is refused
-pub failed_at : (ph : Phase) (cs : List Declared) (ns : List (List ℕ)) (s : State) (c : Cause) (l : Lexeme) (ls before : List Lexeme) (o : Outcome) → before ≡ l ∷ ls → fails c ≡ turned ph cs ns s (sense l.kind) → run ph cs ns s before ≡ o → o ≡ stopped c (l ∷ ls)
-failed_at ph cs ns s c l ls before o b t h =
-    sym h ∙ ap (run ph cs ns s) b ∙ ap (λ x. on_step x (λ t ms. run ph cs ms t ls) (λ e ms. taken e ms ls) (λ c. stopped c (l ∷ ls))) (sym t)
+pub took_none : (ph : Phase) (cs : List Declared) (ns : List (List ℕ)) (ls back : List Lexeme) (c : Cause) → run (turned cs) (opening ph ns) ls ≡ stopped c back → TakesNone (script_of ph cs ns) ls
+took_none Declaring cs ns ls back c h =
+    none-too (declaration_by_number cs ns) (declaration_script cs ns) (alike cs ns) (asked-alike cs ns) ls (none cs (opening Declaring ns) ls back c h)
+took_none Commanding cs ns ls back c h = none cs (opening Commanding ns) ls back c h
 
-pub grows_on : (ns ms os : List (List ℕ)) → Grows ns ms → Grows ms os → Grows ns os
-grows_on ns ms os g h = (g.0 ++ h.0, h.1 ∙ ap (λ l. l ++ h.0) g.1 ∙ append_assoc ns g.0 h.0)
+pub stopped_at : (ph : Phase) (cs : List Declared) (ns : List (List ℕ)) (ls back : List Lexeme) (end : ℕ) (c : Cause) (p : ℕ) → run (turned cs) (opening ph ns) ls ≡ stopped c back → p ≡ place_of end back → Broken (script_of ph cs ns) ls end c p
+stopped_at Declaring cs ns ls back end c p h g =
+    broken-too (declaration_by_number cs ns) (declaration_script cs ns) (alike cs ns) (asked-alike cs ns) ls end c p (broken cs (opening Declaring ns) ls back end c p h g)
+stopped_at Commanding cs ns ls back end c p h g = broken cs (opening Commanding ns) ls back end c p h g
 
--- the names as they were, of which there is one at least
-pub kept_names : (ns ms os : List (List ℕ)) (n : ℕ) → 1 ≤ length ns → n ≡ length ns → Grows ns ms → os ≡ take (max n 1) ms → os ≡ ns
-kept_names ns ms os n some e g h =
-    let k : max n 1 ≡ length ns = omega arith in
-    h ∙ ap (λ l. take (max n 1) l) g.1 ∙ ap (λ i. take i (ns ++ g.0)) k ∙ take-append-le (length ns) ns g.0 (omega arith) ∙ take_all (length ns) ns (omega arith)
-
--- ---- what a reading's outcome says of the answer
-
-module _ (ph : Phase) (cs : List Declared) (ns : List (List ℕ)) (ls : List Lexeme) (end : ℕ) where
-  pub took : (form : Taken) (ms : List (List ℕ)) (after : List Lexeme) → run ph cs ns opening ls ≡ taken (entry_of form) ms after → Reads ph cs ns ls end (Ok form) ms after
-  took form ms after e = subst (Tells ph cs ns ls) e (told ph cs ns ls)
-
-  stands : (back : List Lexeme) (x : Refusal) → Stopped ph cs ns ls x.cause back → x.place ≡ place_of end back → Broken ph cs ns ls end x.cause x.place
-  stands [] x h p = record { front = h.front; back = []; split = h.split; begun = h.begun; stands = (h.why, p) }
-  stands (l ∷ ls) x h p = record { front = h.front; back = l ∷ ls; split = h.split; begun = h.begun; stands = (p, h.why) }
-
-  pub refused : (x : Refusal) (ms : List (List ℕ)) (after : List Lexeme) → ((back : List Lexeme) × (run ph cs ns opening ls ≡ stopped x.cause back) × (x.place ≡ place_of end back)) → ms ≡ ns → after ≡ ls → Reads ph cs ns ls end (Err x) ms after
-  refused x ms after r n a =
-      (n, a, stopped_none ph cs ns ls r.0 x.cause r.1, stands r.0 x (subst (Tells ph cs ns ls) r.1 (told ph cs ns ls)) r.2)
+-- a form that was taken leaves fewer words
+pub takes_fewer : (ph : Phase) (cs : List Declared) (ns : List (List ℕ)) (ls : List Lexeme) (e : Asked) (after : List Lexeme) → Takes (script_of ph cs ns) ls e after → length after < length ls
+takes_fewer Declaring cs ns ls e after t =
+    fewer cs (opening Declaring ns) ls e after
+    (takes-too (declaration_script cs ns) (declaration_by_number cs ns) (λ d. alike-sym (judged_in (declaration_by_number cs ns d)) (judged_in (declaration_script cs ns d)) (alike cs ns d)) (λ d. sym (asked-alike cs ns d)) ls e after t)
+takes_fewer Commanding cs ns ls e after t = fewer cs (opening Commanding ns) ls e after t
 
 -- ---- a class that was read is new, and there is room for it
 
-name-kept : (xs ns : List (List ℕ)) (c : Declared) → (with_attributes c ns xs).name ≡ c.name
-name-kept [] ns c = refl
-name-kept (x ∷ xs) ns c = name-kept xs (after_intern ns x) (record { name = c.name; attributes = c.attributes ++ numbered ns x ∷ [] })
+abbrev name_in : Entry → ℕ
+name_in (declares c) = c.name
+name_in (commands a) = 0
 
-class_new : (cs : List Declared) (o : Option ℕ) → cond (is_some (class_at cs o)) (Some wrong_name) (cond (leb 16 (length cs) || not (is_some o)) (Some over_limit) None) ≡ None → (is_some (find_class cs (unwrap_or o 0)) ≡ false) × (leb 16 (length cs) ≡ false)
-class_new cs None = λ e. absurd (full (leb 16 (length cs)) e)
+name-kept : (xs ns seen : List (List ℕ)) (c : Declared) → name_in (asked_by (attributes_script c ns seen xs)).0 ≡ c.name
+name-kept [] ns seen c = refl
+name-kept (x ∷ xs) ns seen c = name-kept xs (after_intern ns x) (seen ++ x ∷ []) (with_attribute c (numbered ns x))
+
+class-new : (cs : List Declared) (o : Option ℕ) → cond (is_some (class_at cs o)) (Some wrong_name) (cond (leb 16 (length cs) || not (is_some o)) (Some over_limit) None) ≡ None → (is_some (find_class cs (unwrap_or o 0)) ≡ false) × (leb 16 (length cs) ≡ false)
+class-new cs None = λ e. absurd (full (leb 16 (length cs)) e)
   where
     full : (d : Bool) → cond (d || true) (Some over_limit) None ≡ None → ⊥
     full true e = let z : ◌≡◌ {A = ℕ} 0 1 = cc in omega arith
     full false e = let z : ◌≡◌ {A = ℕ} 0 1 = cc in omega arith
-class_new cs (Some i) = by (is_some (find_class cs i)) (leb 16 (length cs))
+class-new cs (Some i) = by (is_some (find_class cs i)) (leb 16 (length cs))
   where
     by : (b d : Bool) → cond b (Some wrong_name) (cond (d || false) (Some over_limit) None) ≡ None → (b ≡ false) × (d ≡ false)
     by true d e = let z : ◌≡◌ {A = ℕ} 0 1 = cc in absurd (omega arith)
     by false true e = let z : ◌≡◌ {A = ℕ} 0 1 = cc in absurd (omega arith)
     by false false e = (refl, refl)
 
-new_class_lem : (cs : List Declared) (ns : List (List ℕ)) (d : Declared) (form : Form) → Allowed Declaring form → Faultless (judged cs ns form) → declares d ≡ meant cs ns form → after_declare cs d ≡ cs ++ d ∷ []
-new_class_lem cs ns d (declaration w xs) a c e =
-    let is : d ≡ with_attributes (new_class (numbered ns w)) (after_intern ns w) xs = cc in
-    let name : d.name ≡ numbered ns w = ap (λ x. x.name) is ∙ name-kept xs (after_intern ns w) (new_class (numbered ns w)) in
-    let new = class_new cs (answer_intern ns w) c.1.1.0 in
+new_class_lem : (cs : List Declared) (ns ms : List (List ℕ)) (ls after : List Lexeme) (d : Declared) → Takes (declaration_script cs ns) ls (declares d, ms) after → after_declare cs d ≡ cs ++ d ∷ []
+new_class_lem cs ns ms ls after d t =
+    let w = t.form.class in
+    let name : d.name ≡ numbered ns w = ap (λ x. name_in x.0) t.asked ∙ name-kept t.form.attributes (after_intern ns w) [] (new_class (numbered ns w)) in
+    let new = class-new cs (answer_intern ns w) t.clear.1.1.0 in
     cond-false (is_some (find_class cs d.name)) _ _ (ap (λ n. is_some (find_class cs n)) name ∙ new.0)
     ∙ cond-false (leb 16 (length cs)) _ _ new.1
-new_class_lem cs ns d (make w ss) a c e = absurd a
-new_class_lem cs ns d (remove n) a c e = absurd a
-new_class_lem cs ns d remove_all a c e = absurd a
-new_class_lem cs ns d list_memory a c e = absurd a
 
-pub declare_taken : (cs ds es : List Declared) (ns ms : List (List ℕ)) (ls after : List Lexeme) (e : Entry) (c : Declared) → ds ≡ cs → Takes Declaring ds ns ls e ms after → Some c ≡ class_in e → es ≡ after_declare cs c → (x : Declared) × Takes Declaring cs ns ls (declares x) ms after × (es ≡ cs ++ x ∷ [])
-declare_taken cs ds es ns ms ls after (declares d) c q t h g =
-    let u = subst (λ x. Takes Declaring x ns ls (declares d) ms after) q t in
-    let is : c ≡ d = cc in
-    (d, u, g ∙ ap (after_declare cs) is ∙ new_class_lem cs ns d u.form u.allowed u.clear u.entry)
-declare_taken cs ds es ns ms ls after (commands a) c q t h g = let z : ◌≡◌ {A = ℕ} 0 1 = cc in absurd (omega arith)
+-- ---- a declaration declares, and a command commands
 
--- a form that was taken leaves fewer words
-spells_fewer : (js : List Judged) (ls after : List Lexeme) → Spells js ls after → length ls ≡ length js + length after
-spells_fewer [] ls after h = ap length h ∙ sym (zero-add (length after))
-spells_fewer (j ∷ js) [] after h = absurd h
-spells_fewer (j ∷ js) (l ∷ ls) after h = let r = spells_fewer js ls after h.1 in omega arith
+abbrev Declares : Entry → Type 0
+Declares (declares c) = Unit {0}
+Declares (commands a) = ⊥
 
-some_words : (cs : List Declared) (ns : List (List ℕ)) (form : Form) → 0 < length (judged cs ns form)
-some_words cs ns (declaration w xs) = omega arith
-some_words cs ns (make w ss) = omega arith
-some_words cs ns (remove n) = omega arith
-some_words cs ns remove_all = omega arith
-some_words cs ns list_memory = omega arith
+asks-class : (xs ns seen : List (List ℕ)) (c : Declared) → Declares (asked_by (attributes_script c ns seen xs)).0
+asks-class [] ns seen c = tt
+asks-class (x ∷ xs) ns seen c = asks-class xs (after_intern ns x) (seen ++ x ∷ []) (with_attribute c (numbered ns x))
 
-pub takes_fewer : (ph : Phase) (cs : List Declared) (ns ms : List (List ℕ)) (ls after : List Lexeme) (e : Entry) → Takes ph cs ns ls e ms after → length after < length ls
-takes_fewer ph cs ns ms ls after e t =
-    omega (arith, spells_fewer (judged cs ns t.form) ls after t.spelled, some_words cs ns t.form)
+abbrev Commands : Entry → Type 0
+Commands (declares c) = ⊥
+Commands (commands a) = Unit {0}
+
+asks-make : (ss : List Setting) (c : Declared) (ns : List (List ℕ)) (e : List Value) → Commands (asked_by (settings_script c ns e ss)).0
+asks-make [] c ns e = tt
+asks-make (s ∷ ss) c ns e = asks-make ss c (after_value ns s.value) (set e (field_named c ns s.attribute) (value_of ns s.value))
+
+asks-act : (cs : List Declared) (ns : List (List ℕ)) (f : CommandForm) → Commands (asked_by (command_script cs ns f)).0
+asks-act cs ns (make c ss) = asks-make ss (class_named cs ns c) ns (blank (class_named cs ns c).name)
+asks-act cs ns (remove (one n)) = tt
+asks-act cs ns (remove every) = tt
+asks-act cs ns list_memory = tt
+
+pub declares_one : (cs : List Declared) (ns ms : List (List ℕ)) (ls after : List Lexeme) (f : Taken) (a : Command) → Takes (declaration_script cs ns) ls (entry_of f, ms) after → f ≡ Commanded a → ⊥
+declares_one cs ns ms ls after f a t e =
+    subst (λ x. Declares x.0) (sym t.asked ∙ ap (λ g. (entry_of g, ms)) e) (asks-class t.form.attributes (after_intern ns t.form.class) [] (new_class (numbered ns t.form.class)))
+
+pub commands_one : (cs : List Declared) (ns ms : List (List ℕ)) (ls after : List Lexeme) (f : Taken) (c : Class) → Takes (command_script cs ns) ls (entry_of f, ms) after → f ≡ Declaration c → ⊥
+commands_one cs ns ms ls after f c t e = subst (λ x. Commands x.0) (sym t.asked ∙ ap (λ g. (entry_of g, ms)) e) (asks-act cs ns t.form)
+
+pub declared_taken : (cs ds es : List Declared) (ns ms : List (List ℕ)) (ls after : List Lexeme) (f : Taken) (c : Class) → ds ≡ cs → Takes (declaration_script ds ns) ls (entry_of f, ms) after → f ≡ Declaration c → es ≡ after_declare cs (declared c) → (x : Declared) × Takes (declaration_script cs ns) ls (declares x, ms) after × (es ≡ cs ++ x ∷ [])
+declared_taken cs ds es ns ms ls after f c q t e g =
+    let u = subst (λ x. Takes (declaration_script x ns) ls (declares (declared c), ms) after) q (subst (λ h. Takes (declaration_script ds ns) ls (entry_of h, ms) after) e t) in
+    (declared c, u, g ∙ new_class_lem cs ns ms ls after (declared c) u)
+
+pub declaration_refused : (end : ℕ) (cs ds : List Declared) (ns ms : List (List ℕ)) (before after : Words) (x : Refusal) → end ≡ length (text_of before) → end ≤ longest → declares_next (rest before) ≡ true → ds ≡ cs → Reads Declaring ds ns before (Err x) ms after → ReadsDeclaration end cs ns (rest before) (Err x) cs ms (rest after)
+declaration_refused end cs ds ns ms before after x is short comes q r = (
+  refl,
+  r.0,
+  ap rest r.1,
+  inr (
+    short,
+    comes,
+    subst (λ z. TakesNone (declaration_script z ns) (rest before)) q r.2,
+    subst (λ z. Broken (declaration_script z ns) (rest before) end x.cause x.place) q (subst (λ z. Broken (declaration_script ds ns) (rest before) z x.cause x.place) (sym is) r.3),
+  ),
+)

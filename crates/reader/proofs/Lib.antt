@@ -1,7 +1,5 @@
-pub mod Turning
-pub mod Matched
-pub mod Spelled
-pub mod Progress
-pub mod Sofar
 pub mod Answering
+pub mod Matched
+pub mod Numbered
+pub mod Rests
 pub mod Settling

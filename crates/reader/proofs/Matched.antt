@@ -6,8 +6,9 @@ use Rattle.values.specs.Firsts.{first_from}
 use Rattle.values.specs.Naming.{number_of, answer_intern, after_intern}
 use Rattle.values.proofs.Numbering.{kept_number, own_number, answer_named, one_word}
 use Rattle.rules.specs.Attributes.{Declared}
-use Rattle.reader.specs.Refusals.{wrong_name, over_limit}
-use Rattle.reader.specs.Forms.{numbered, unnameable, field_at, among, attribute_fault}
+use Rattle.languages.specs.Refusals.{wrong_name, over_limit}
+use Rattle.languages.specs.Naming.{numbered, unnameable, field_at}
+use Rattle.reader.specs.Forms.{among, attribute_fault}
 use Rattle.reader.specs.Machine.{attribute_fault_by_number}
 
 -- each word has the number beside it

@@ -1,47 +1,46 @@
--- The forms of the language: the words that spell each, what is wrong with a word, and what a form means. Assumes nothing.
-use Rattle.std.specs.Prelude.{◌≡◌, ℕ, Bool, false, cond, not, ◌||◌, List, [], ◌∷◌, ◌++◌, length, ℤ, is_some, Some, None, codes, Option, nat_le, slice_set}
-use Rattle.std.specs.Option.{unwrap_or}
+-- Declarations and commands: their forms, the words that spell each, and what each asks for. Assumes nothing.
+use Rattle.std.specs.Prelude.{ℕ, Bool, false, cond, ◌||◌, List, [], ◌∷◌, ◌++◌, length, ℤ, is_some, Some, None, codes, Option, nat_le, slice_set}
 use Rattle.std.specs.Str.{bytes_eq}
-use Rattle.words.specs.Kinds.{Kind, open', close', hat, number, symbol}
+use Rattle.words.specs.Kinds.{open', close', hat, number, symbol}
 use Rattle.values.specs.declared.value.Value.{Value}
-use Rattle.values.specs.declared.value.Value.TheVariants.{Symbol, Number}
 use Rattle.values.specs.Elements.{blank}
-use Rattle.values.specs.Naming.{number_of, answer_intern, after_intern}
-use Rattle.rules.specs.Attributes.{Declared, new_class, field_of}
-use Rattle.rules.specs.Declarations.{find_class}
+use Rattle.values.specs.Naming.{answer_intern, after_intern}
+use Rattle.rules.specs.Attributes.{Declared, new_class, with_attribute}
 use Rattle.reader.specs.declared.form.Phase.{Phase}
 use Rattle.reader.specs.declared.form.Phase.TheVariants.{Declaring, Commanding}
-use Rattle.reader.specs.Refusals.{Fault, wrong_name, over_limit}
+use Rattle.languages.specs.Naming.{Constant, numbered, unnameable, class_at, class_named, field_named, constant_word, value_of, after_value, undeclared, lacking, value_fault}
+use Rattle.languages.specs.Refusals.{Fault, wrong_name, over_limit}
+use Rattle.languages.specs.Scripts.{Script, then', asks, judge, fine}
 
--- a constant of a text, its symbol by its bytes
-pub data Constant : Type 0 where
-  symbolic : List ℕ → Constant
-  numeric : ℤ → Constant
+-- ---- forms
+
+-- `(literalize CLASS ATTRIBUTE ..)`
+pub record DeclarationForm : Type 0 where
+  pub class : List ℕ
+  pub attributes : List (List ℕ)
 
 -- `^ATTRIBUTE VALUE`
 pub record Setting : Type 0 where
   pub attribute : List ℕ
   pub value : Constant
 
--- `(literalize CLASS ATTRIBUTE ..)`, `(make CLASS ^ATTRIBUTE VALUE ..)`, `(remove TAG)`, `(remove *)` and `(wm)`
-pub data Form : Type 0 where
-  declaration : (class : List ℕ) (attributes : List (List ℕ)) → Form
-  make : (class : List ℕ) (settings : List Setting) → Form
-  remove : ℤ → Form
-  remove_all list_memory : Form
+-- a time tag, or `*` for every one
+pub data Target : Type 0 where
+  one : ℤ → Target
+  every : Target
 
--- which forms a phase has
-abbrev pub Allowed : Phase → Form → Type 0
-Allowed Declaring (declaration c xs) = Unit {0}
-Allowed Declaring (make c ss) = ⊥
-Allowed Declaring (remove n) = ⊥
-Allowed Declaring remove_all = ⊥
-Allowed Declaring list_memory = ⊥
-Allowed Commanding (declaration c xs) = ⊥
-Allowed Commanding (make c ss) = Unit {0}
-Allowed Commanding (remove n) = Unit {0}
-Allowed Commanding remove_all = Unit {0}
-Allowed Commanding list_memory = Unit {0}
+-- `(make CLASS ^ATTRIBUTE VALUE ..)`, `(remove TAG)` or `(remove *)`, and `(wm)`
+pub data CommandForm : Type 0 where
+  make : (class : List ℕ) (settings : List Setting) → CommandForm
+  remove : Target → CommandForm
+  list_memory : CommandForm
+
+-- the forms of a phase
+abbrev pub FormOf : Phase → Type 0
+FormOf Declaring = DeclarationForm
+FormOf Commanding = CommandForm
+
+-- ---- what a form asks for
 
 -- what a command asks for; an element by its values
 pub data Act : Type 0 where
@@ -49,42 +48,21 @@ pub data Act : Type 0 where
   removes : ℤ → Act
   removes_all lists : Act
 
--- what a form asks for: a class, by the numbers of its symbols, or a command
+-- a class, by the numbers of its symbols, or a command
 pub data Entry : Type 0 where
   declares : Declared → Entry
   commands : Act → Entry
 
--- ---- names and classes
+-- what a form asks for, and the names after it: its new symbols are added in order of first use
+abbrev pub Asked : Type 0
+Asked = Entry × List (List ℕ)
 
--- the number that a symbol has, or gets as the next name; 0 where it can get none, which no accepted form has
-abbrev pub numbered : List (List ℕ) → List ℕ → ℕ
-numbered ns w = unwrap_or (answer_intern ns w) 0
-
--- the names with each of these symbols among them, in their order
-abbrev pub grown : List (List ℕ) → List (List ℕ) → List (List ℕ)
-grown ns [] = ns
-grown ns (w ∷ ws) = grown (after_intern ns w) ws
-
--- a symbol that is no name yet and can become none: there is no room, or it is too long
-abbrev pub unnameable : List (List ℕ) → List ℕ → Bool
-unnameable ns w = not (is_some (answer_intern ns w))
-
--- the class whose symbol has the number
-abbrev pub class_at : List Declared → Option ℕ → Option Declared
-class_at cs None = None
-class_at cs (Some i) = find_class cs i
-
--- the field of the attribute whose symbol has the number
-abbrev pub field_at : Declared → Option ℕ → Option ℕ
-field_at c None = None
-field_at c (Some i) = field_of c i
+-- ---- what is wrong with a word of a declaration; the lower number first
 
 -- whether a word is one of these
 abbrev pub among : List ℕ → List (List ℕ) → Bool
 among w [] = false
 among w (x ∷ xs) = bytes_eq x w || among w xs
-
--- ---- what is wrong with a word; the lower number first
 
 -- the class of a declaration: a class has the number that its symbol has or gets; then one class too many, or no name can
 -- be given
@@ -99,113 +77,51 @@ attribute_fault ns seen w =
     cond (among w seen) (Some wrong_name)
     (cond (nat_le 15 (length seen) || unnameable ns w) (Some over_limit) None)
 
--- the class of an element to make: undeclared
-abbrev pub element_class_fault : List Declared → List (List ℕ) → List ℕ → Option Fault
-element_class_fault cs ns w = cond (is_some (class_at cs (number_of ns w))) None (Some wrong_name)
+-- ---- the words of a form in their order, from `(` to `)`, where the classes are cs and the names at the start ns
 
--- an attribute of an element to make: its class lacks it
-abbrev pub field_fault : Declared → List (List ℕ) → List ℕ → Option Fault
-field_fault c ns w = cond (is_some (field_at c (number_of ns w))) None (Some wrong_name)
+-- the attributes of a declaration after those in `seen`, which the class c has, and the end of the declaration
+abbrev pub attributes_script : Declared → List (List ℕ) → List (List ℕ) → List (List ℕ) → Script Asked
+attributes_script c ns seen [] = then' (fine close') (asks (declares c, ns))
+attributes_script c ns seen (x ∷ xs) =
+    then' (judge (symbol x) (attribute_fault ns seen x)) (attributes_script (with_attribute c (numbered ns x)) (after_intern ns x) (seen ++ x ∷ []) xs)
 
--- a value: a symbol to which no name can be given
-abbrev pub value_fault : List (List ℕ) → Constant → Option Fault
-value_fault ns (symbolic w) = cond (unnameable ns w) (Some over_limit) None
-value_fault ns (numeric n) = None
+-- the class of a declaration, and the rest of it
+abbrev pub class_script : List Declared → List (List ℕ) → DeclarationForm → Script Asked
+class_script cs ns d =
+    then' (judge (symbol d.class) (class_fault cs ns d.class))
+    (attributes_script (new_class (numbered ns d.class)) (after_intern ns d.class) [] d.attributes)
 
--- ---- the words of a form, each with what is wrong with it where everything before it is right
+abbrev pub declaration_script : List Declared → List (List ℕ) → DeclarationForm → Script Asked
+declaration_script cs ns d = then' (fine open') (then' (fine (symbol (codes "literalize"))) (class_script cs ns d))
 
--- a word of a form, and the rule that it breaks, if any
-pub record Judged : Type 0 where
-  pub word : Kind
-  pub fault : Option Fault
+-- the end of a command
+abbrev pub close_script : Act → List (List ℕ) → Script Asked
+close_script a ns = then' (fine close') (asks (commands a, ns))
 
--- a word with what is wrong with it
-abbrev pub judge : Kind → Option Fault → Judged
-judge k f = record { word = k; fault = f }
+-- the settings of a make of the class c: `^`, attribute and value of each; e has the values set before
+abbrev pub settings_script : Declared → List (List ℕ) → List Value → List Setting → Script Asked
+settings_script c ns e [] = close_script (makes e) ns
+settings_script c ns e (s ∷ ss) =
+    then' (fine hat)
+    (then' (judge (symbol s.attribute) (lacking c ns s.attribute))
+    (then' (judge (constant_word s.value) (value_fault ns s.value))
+    (settings_script c (after_value ns s.value) (slice_set e (field_named c ns s.attribute) (value_of ns s.value)) ss)))
 
--- a word with which nothing can be wrong
-abbrev pub fine : Kind → Judged
-fine k = judge k None
+-- the class of an element to make, and the rest of the make
+abbrev pub make_script : List Declared → List (List ℕ) → List ℕ → List Setting → Script Asked
+make_script cs ns c ss =
+    then' (judge (symbol c) (undeclared cs ns c)) (settings_script (class_named cs ns c) ns (blank (class_named cs ns c).name) ss)
 
--- the word that spells a constant; a number by its value
-abbrev pub constant_word : Constant → Kind
-constant_word (symbolic w) = symbol w
-constant_word (numeric n) = number n []
+-- what is removed
+abbrev pub target_script : List (List ℕ) → Target → Script Asked
+target_script ns (one n) = then' (fine (number n [])) (close_script (removes n) ns)
+target_script ns every = then' (fine (symbol (codes "*"))) (close_script removes_all ns)
 
--- the names after a value
-abbrev pub after_value : List (List ℕ) → Constant → List (List ℕ)
-after_value ns (symbolic w) = after_intern ns w
-after_value ns (numeric n) = ns
+-- the head of a command, and the rest of it
+abbrev pub head_script : List Declared → List (List ℕ) → CommandForm → Script Asked
+head_script cs ns (make c ss) = then' (fine (symbol (codes "make"))) (make_script cs ns c ss)
+head_script cs ns (remove t) = then' (fine (symbol (codes "remove"))) (target_script ns t)
+head_script cs ns list_memory = then' (fine (symbol (codes "wm"))) (close_script lists ns)
 
--- the attributes of a declaration, after those in `seen`
-abbrev pub judged_attributes : List (List ℕ) → List (List ℕ) → List (List ℕ) → List Judged
-judged_attributes ns seen [] = []
-judged_attributes ns seen (x ∷ xs) = judge (symbol x) (attribute_fault ns seen x) ∷ judged_attributes (after_intern ns x) (seen ++ x ∷ []) xs
-
--- the settings of a make of the class c: `^`, attribute and value of each
-abbrev pub judged_settings : Declared → List (List ℕ) → List Setting → List Judged
-judged_settings c ns [] = []
-judged_settings c ns (s ∷ ss) =
-    fine hat ∷ judge (symbol s.attribute) (field_fault c ns s.attribute) ∷ judge (constant_word s.value) (value_fault ns s.value)
-    ∷ judged_settings c (after_value ns s.value) ss
-
--- the class of an element to make, by its word; where it is undeclared, which no accepted form has, one without attributes
-abbrev pub class_named : List Declared → List (List ℕ) → List ℕ → Declared
-class_named cs ns w = unwrap_or (class_at cs (number_of ns w)) (new_class 0)
-
--- the words of a form in their order, from `(` to `)`, each with what is wrong with it where the classes are cs and the names
--- at the start ns
-abbrev pub judged : List Declared → List (List ℕ) → Form → List Judged
-judged cs ns (declaration c xs) =
-    fine open' ∷ fine (symbol (codes "literalize")) ∷ judge (symbol c) (class_fault cs ns c)
-    ∷ (judged_attributes (after_intern ns c) [] xs ++ fine close' ∷ [])
-judged cs ns (make c ss) =
-    fine open' ∷ fine (symbol (codes "make")) ∷ judge (symbol c) (element_class_fault cs ns c)
-    ∷ (judged_settings (class_named cs ns c) ns ss ++ fine close' ∷ [])
-judged cs ns (remove n) = fine open' ∷ fine (symbol (codes "remove")) ∷ fine (number n []) ∷ fine close' ∷ []
-judged cs ns remove_all = fine open' ∷ fine (symbol (codes "remove")) ∷ fine (symbol (codes "*")) ∷ fine close' ∷ []
-judged cs ns list_memory = fine open' ∷ fine (symbol (codes "wm")) ∷ fine close' ∷ []
-
--- nothing is wrong with any of the words
-abbrev pub Faultless : List Judged → Type 0
-Faultless [] = Unit {0}
-Faultless (j ∷ js) = (j.fault ≡ None) × Faultless js
-
--- ---- what a form means
-
--- the class with the attributes of these symbols behind those that it has
-abbrev pub with_attributes : Declared → List (List ℕ) → List (List ℕ) → Declared
-with_attributes c ns [] = c
-with_attributes c ns (x ∷ xs) = with_attributes (record { name = c.name; attributes = c.attributes ++ numbered ns x ∷ [] }) (after_intern ns x) xs
-
--- the value of a constant
-abbrev pub value_of : List (List ℕ) → Constant → Value
-value_of ns (symbolic w) = Symbol (numbered ns w)
-value_of ns (numeric n) = Number n
-
--- an element's values with the settings made in text order; every attribute of an accepted form has a field
-abbrev pub filled : Declared → List (List ℕ) → List Value → List Setting → List Value
-filled c ns e [] = e
-filled c ns e (s ∷ ss) =
-    filled c (after_value ns s.value) (slice_set e (unwrap_or (field_at c (number_of ns s.attribute)) 0) (value_of ns s.value)) ss
-
--- the names after the values of settings
-abbrev pub after_values : List (List ℕ) → List Setting → List (List ℕ)
-after_values ns [] = ns
-after_values ns (s ∷ ss) = after_values (after_value ns s.value) ss
-
--- what a form asks for where the classes are cs and the names at the start ns
-abbrev pub meant : List Declared → List (List ℕ) → Form → Entry
-meant cs ns (declaration c xs) = declares (with_attributes (new_class (numbered ns c)) (after_intern ns c) xs)
-meant cs ns (make c ss) = commands (makes (filled (class_named cs ns c) ns (blank (class_named cs ns c).name) ss))
-meant cs ns (remove n) = commands (removes n)
-meant cs ns remove_all = commands removes_all
-meant cs ns list_memory = commands lists
-
--- the names after a form: its new symbols are added in order of first use. A make's class and attributes have names already
-abbrev pub names_after : List (List ℕ) → Form → List (List ℕ)
-names_after ns (declaration c xs) = grown ns (c ∷ xs)
-names_after ns (make c ss) = after_values ns ss
-names_after ns (remove n) = ns
-names_after ns remove_all = ns
-names_after ns list_memory = ns
+abbrev pub command_script : List Declared → List (List ℕ) → CommandForm → Script Asked
+command_script cs ns f = then' (fine open') (head_script cs ns f)

@@ -1,5 +1,3 @@
-pub mod Refusals
-pub mod Senses
 pub mod Forms
 pub mod Machine
 pub mod Meaning

@@ -1,69 +1,48 @@
--- Reading word by word: what the code computes. No public contract cites this; the proofs join it to the forms. Assumes nothing.
-use Rattle.std.specs.Prelude.{ℕ, cond, ◌||◌, List, [], ◌∷◌, length, is_some, Some, None, codes, Option, nat_le, slice_set}
+-- Reading declarations and commands word by word: what the code computes. No public contract cites this; the proofs join it
+-- to the forms. Assumes nothing.
+use Rattle.std.specs.Prelude.{ℕ, cond, ◌||◌, List, length, ℤ, is_some, Some, None, codes, Option, nat_le, slice_set}
 use Rattle.std.specs.Str.{bytes_eq}
 use Rattle.words.specs.Kinds.{Kind}
-use Rattle.words.specs.Words.{Lexeme}
 use Rattle.values.specs.declared.value.Value.{Value}
 use Rattle.values.specs.declared.value.Value.TheVariants.{Symbol, Number}
 use Rattle.values.specs.Elements.{blank}
-use Rattle.values.specs.Naming.{number_of, answer_intern, after_intern}
+use Rattle.values.specs.Naming.{answer_intern, after_intern}
 use Rattle.rules.specs.Attributes.{Declared, new_class, with_attribute}
 use Rattle.reader.specs.declared.form.Phase.{Phase}
 use Rattle.reader.specs.declared.form.Phase.TheVariants.{Declaring, Commanding}
-use Rattle.reader.specs.declared.refusal.Cause.{Cause}
-use Rattle.reader.specs.declared.refusal.Cause.TheVariants.{IllegalWord, UnexpectedWord}
-use Rattle.reader.specs.Refusals.{Fault, wrong_name, over_limit, cause_of}
-use Rattle.reader.specs.Senses.{sense, by_kind}
-use Rattle.reader.specs.Forms.{Act, makes, removes, removes_all, lists, Entry, declares, commands, numbered, unnameable, class_at, field_at, class_fault}
+use Rattle.languages.specs.declared.refusal.Cause.TheVariants.{UnexpectedWord}
+use Rattle.languages.specs.Refusals.{Fault, wrong_name, over_limit}
+use Rattle.languages.specs.Naming.{symbolic, numbered, unnameable, field_at, class_named, field_named, undeclared, lacking, value_fault}
+use Rattle.reader.specs.Forms.{Act, makes, removes, removes_all, lists, declares, commands, Asked, class_fault}
+use Rattle.languages.specs.Machines.{Step, onward, whole, fails, unless, refuse, on_open, on_close, on_hat, on_number, on_symbol}
 
--- what was read of a form, by what may come next
+-- what was read of a form, by what may come next; with the names so far
 pub data State : Type 0 where
-  opening head class_name element_class tag : State
-  attributes : Declared → State
-  pairs attribute : Declared → List Value → State
-  field_value : Declared → List Value → ℕ → State
-  closing : Act → State
+  opening head : Phase → List (List ℕ) → State
+  class_name element_class tag : List (List ℕ) → State
+  attributes : List (List ℕ) → Declared → State
+  pairs attribute : List (List ℕ) → Declared → List Value → State
+  field_value : List (List ℕ) → Declared → List Value → ℕ → State
+  closing : List (List ℕ) → Act → State
 
--- what a word does, with the names after it: it leads on, it ends the form, or it is refused
-pub data Step : Type 0 where
-  onward : State → List (List ℕ) → Step
-  whole : Entry → List (List ℕ) → Step
-  fails : Cause → Step
-
--- refused where something is wrong
-abbrev pub unless : Option Fault → Step → Step
-unless None s = s
-unless (Some f) s = fails (cause_of f)
+abbrev pub Move : Type 0
+Move = Step State Asked
 
 -- a word that cannot continue the form
-abbrev pub unexpected : Step
+abbrev pub unexpected : Move
 unexpected = fails UnexpectedWord
 
--- a word that no text may have
-abbrev pub illegal_here : Step
-illegal_here = fails IllegalWord
-
--- the first word of a form
-abbrev pub opened : List (List ℕ) → Kind → Step
-opened ns k = by_kind k (onward head ns) unexpected unexpected (λ _. unexpected) (λ _. unexpected) illegal_here unexpected
-
 -- the word that says which form it is, by the phase
-abbrev pub head_word : Phase → List (List ℕ) → List ℕ → Step
-head_word Declaring ns w = cond (bytes_eq w (codes "literalize")) (onward class_name ns) unexpected
+abbrev pub head_word : Phase → List (List ℕ) → List ℕ → Move
+head_word Declaring ns w = cond (bytes_eq w (codes "literalize")) (onward (class_name ns)) unexpected
 head_word Commanding ns w =
-    cond (bytes_eq w (codes "make")) (onward element_class ns)
-    (cond (bytes_eq w (codes "remove")) (onward tag ns)
-    (cond (bytes_eq w (codes "wm")) (onward (closing lists) ns) unexpected))
-
-abbrev pub headed : Phase → List (List ℕ) → Kind → Step
-headed ph ns k = by_kind k unexpected unexpected unexpected (λ w. head_word ph ns w) (λ _. unexpected) illegal_here unexpected
+    cond (bytes_eq w (codes "make")) (onward (element_class ns))
+    (cond (bytes_eq w (codes "remove")) (onward (tag ns))
+    (cond (bytes_eq w (codes "wm")) (onward (closing ns lists)) unexpected))
 
 -- the class of a declaration
-abbrev pub class_word : List Declared → List (List ℕ) → List ℕ → Step
-class_word cs ns w = unless (class_fault cs ns w) (onward (attributes (new_class (numbered ns w))) (after_intern ns w))
-
-abbrev pub classed : List Declared → List (List ℕ) → Kind → Step
-classed cs ns k = by_kind k unexpected unexpected unexpected (λ w. class_word cs ns w) (λ _. unexpected) illegal_here unexpected
+abbrev pub class_word : List Declared → List (List ℕ) → List ℕ → Move
+class_word cs ns w = unless (class_fault cs ns w) (onward (attributes (after_intern ns w) (new_class (numbered ns w))))
 
 -- an attribute by its number: the class has it; then a sixteenth, or no name can be given
 abbrev pub attribute_fault_by_number : Declared → List (List ℕ) → List ℕ → Option Fault
@@ -72,78 +51,38 @@ attribute_fault_by_number c ns w =
     (cond (nat_le 15 (length c.attributes) || unnameable ns w) (Some over_limit) None)
 
 -- an attribute of a declaration
-abbrev pub attribute_word : Declared → List (List ℕ) → List ℕ → Step
-attribute_word c ns w = unless (attribute_fault_by_number c ns w) (onward (attributes (with_attribute c (numbered ns w))) (after_intern ns w))
+abbrev pub attribute_word : List (List ℕ) → Declared → List ℕ → Move
+attribute_word ns c w = unless (attribute_fault_by_number c ns w) (onward (attributes (after_intern ns w) (with_attribute c (numbered ns w))))
 
-abbrev pub attributed : Declared → List (List ℕ) → Kind → Step
-attributed c ns k = by_kind k unexpected (whole (declares c) ns) unexpected (λ w. attribute_word c ns w) (λ _. unexpected) illegal_here unexpected
+-- the class of an element to make
+abbrev pub element_word : List Declared → List (List ℕ) → List ℕ → Move
+element_word cs ns w = unless (undeclared cs ns w) (onward (pairs ns (class_named cs ns w) (blank (class_named cs ns w).name)))
 
--- the class of an element to make, as it was found
-abbrev pub element_of : List (List ℕ) → Option Declared → Step
-element_of ns None = fails (cause_of wrong_name)
-element_of ns (Some c) = onward (pairs c (blank c.name)) ns
+-- an attribute of an element to make
+abbrev pub field_word : List (List ℕ) → Declared → List Value → List ℕ → Move
+field_word ns c e w = unless (lacking c ns w) (onward (field_value ns c e (field_named c ns w)))
 
-abbrev pub element_classed : List Declared → List (List ℕ) → Kind → Step
-element_classed cs ns k = by_kind k unexpected unexpected unexpected (λ w. element_of ns (class_at cs (number_of ns w))) (λ _. unexpected) illegal_here unexpected
+-- a symbol as a value
+abbrev pub symbol_word : List (List ℕ) → Declared → List Value → ℕ → List ℕ → Move
+symbol_word ns c e f w = unless (value_fault ns (symbolic w)) (onward (pairs (after_intern ns w) c (slice_set e f (Symbol (numbered ns w)))))
 
--- `^`, or the end of a make
-abbrev pub paired : Declared → List Value → List (List ℕ) → Kind → Step
-paired c e ns k = by_kind k unexpected (whole (commands (makes e)) ns) (onward (attribute c e) ns) (λ _. unexpected) (λ _. unexpected) illegal_here unexpected
+-- a number as a value
+abbrev pub number_word : List (List ℕ) → Declared → List Value → ℕ → ℤ → Move
+number_word ns c e f n = onward (pairs ns c (slice_set e f (Number n)))
 
--- an attribute of an element to make, as its field was found
-abbrev pub field_found : Declared → List Value → List (List ℕ) → Option ℕ → Step
-field_found c e ns None = fails (cause_of wrong_name)
-field_found c e ns (Some f) = onward (field_value c e f) ns
-
-abbrev pub field_named : Declared → List Value → List (List ℕ) → Kind → Step
-field_named c e ns k = by_kind k unexpected unexpected unexpected (λ w. field_found c e ns (field_at c (number_of ns w))) (λ _. unexpected) illegal_here unexpected
-
--- a symbol as a value, with the number that it was given
-abbrev pub symbol_set : Declared → List Value → ℕ → List (List ℕ) → Option ℕ → Step
-symbol_set c e f ns None = fails (cause_of over_limit)
-symbol_set c e f ns (Some i) = onward (pairs c (slice_set e f (Symbol i))) ns
-
-abbrev pub valued : Declared → List Value → ℕ → List (List ℕ) → Kind → Step
-valued c e f ns k =
-    by_kind k unexpected unexpected unexpected (λ w. symbol_set c e f (after_intern ns w) (answer_intern ns w))
-    (λ n. onward (pairs c (slice_set e f (Number n))) ns) illegal_here unexpected
-
--- a time tag, or `*`
-abbrev pub tagged : List (List ℕ) → Kind → Step
-tagged ns k =
-    by_kind k unexpected unexpected unexpected (λ w. cond (bytes_eq w (codes "*")) (onward (closing removes_all) ns) unexpected)
-    (λ n. onward (closing (removes n)) ns) illegal_here unexpected
-
--- the end of a command
-abbrev pub closed : Act → List (List ℕ) → Kind → Step
-closed a ns k = by_kind k unexpected (whole (commands a) ns) unexpected (λ _. unexpected) (λ _. unexpected) illegal_here unexpected
+-- `*`, and no other symbol
+abbrev pub every_word : List (List ℕ) → List ℕ → Move
+every_word ns w = cond (bytes_eq w (codes "*")) (onward (closing ns removes_all)) unexpected
 
 -- what a word does in a state
-abbrev pub turned : Phase → List Declared → List (List ℕ) → State → Kind → Step
-turned ph cs ns opening k = opened ns k
-turned ph cs ns head k = headed ph ns k
-turned ph cs ns class_name k = classed cs ns k
-turned ph cs ns (attributes c) k = attributed c ns k
-turned ph cs ns element_class k = element_classed cs ns k
-turned ph cs ns (pairs c e) k = paired c e ns k
-turned ph cs ns (attribute c e) k = field_named c e ns k
-turned ph cs ns (field_value c e f) k = valued c e f ns k
-turned ph cs ns tag k = tagged ns k
-turned ph cs ns (closing a) k = closed a ns k
-
--- how a form's reading ends: it was taken, with the names then and the words left, or it stopped, before the words left
-pub data Outcome : Type 0 where
-  taken : Entry → List (List ℕ) → List Lexeme → Outcome
-  stopped : Cause → List Lexeme → Outcome
-
--- by what a step is
-abbrev pub on_step : {X : Type 0} → Step → (State → List (List ℕ) → X) → (Entry → List (List ℕ) → X) → (Cause → X) → X
-on_step (onward s ns) f g h = f s ns
-on_step (whole e ns) f g h = g e ns
-on_step (fails c) f g h = h c
-
--- reading word after word
-abbrev pub run : Phase → List Declared → List (List ℕ) → State → List Lexeme → Outcome
-run ph cs ns s [] = stopped UnexpectedWord []
-run ph cs ns s (l ∷ ls) =
-    on_step (turned ph cs ns s (sense l.kind)) (λ t ms. run ph cs ms t ls) (λ e ms. taken e ms ls) (λ c. stopped c (l ∷ ls))
+abbrev pub turned : List Declared → State → Kind → Move
+turned cs (opening ph ns) k = on_open (onward (head ph ns)) refuse k
+turned cs (head ph ns) k = on_symbol (head_word ph ns) refuse k
+turned cs (class_name ns) k = on_symbol (class_word cs ns) refuse k
+turned cs (attributes ns c) k = on_close (whole (declares c, ns)) (on_symbol (attribute_word ns c) refuse) k
+turned cs (element_class ns) k = on_symbol (element_word cs ns) refuse k
+turned cs (pairs ns c e) k = on_hat (onward (attribute ns c e)) (on_close (whole (commands (makes e), ns)) refuse) k
+turned cs (attribute ns c e) k = on_symbol (field_word ns c e) refuse k
+turned cs (field_value ns c e f) k = on_number (number_word ns c e f) (on_symbol (symbol_word ns c e f) refuse) k
+turned cs (tag ns) k = on_number (λ n. onward (closing ns (removes n))) (on_symbol (every_word ns) refuse) k
+turned cs (closing ns a) k = on_close (whole (commands a, ns)) refuse k

@@ -1,19 +1,25 @@
 -- What the reader's own values mean. Assumes nothing.
-use Rattle.std.specs.Prelude.{◌≡◌, ℕ, List, [], ◌∷◌, ◌++◌, Some, None, Ok, Err, Option, Result}
-use Rattle.words.specs.Words.{Lexeme}
+use Rattle.std.specs.Prelude.{◌≡◌, ℕ, List, length, Ok, Err, Result}
+use Rattle.words.specs.declared.text.Words.{Words}
+use Rattle.words.specs.Kinds.{Kind}
+use Rattle.words.specs.Words.{Lexeme, rest, text_of}
 use Rattle.values.specs.Elements.{fields_of}
 use Rattle.rules.specs.Attributes.{Declared, declared}
 use Rattle.reader.specs.declared.form.Command.{Command}
 use Rattle.reader.specs.declared.form.Command.TheVariants.{Make, Remove, RemoveAll, ListMemory}
 use Rattle.reader.specs.declared.form.Taken.{Taken}
 use Rattle.reader.specs.declared.form.Taken.TheVariants.{Declaration, Commanded}
-use Rattle.reader.specs.declared.refusal.Refusal.{Refusal}
+use Rattle.languages.specs.declared.refusal.Cause.{Cause}
+use Rattle.languages.specs.declared.refusal.Refusal.{Refusal}
+use Rattle.languages.specs.Naming.{Grows}
+use Rattle.languages.specs.Senses.{sense}
 use Rattle.reader.specs.declared.state.State.{State as Reading}
 use Rattle.reader.specs.declared.state.State.TheVariants.{Opening, Head, ClassName, Attributes, ElementClass, Pairs, Attribute, FieldValue, Tag, Closing}
 use Rattle.reader.specs.declared.state.Step.{Step as Turn}
-use Rattle.reader.specs.declared.state.Step.TheVariants.{Onward, Whole, Fails}
-use Rattle.reader.specs.Forms.{Act, makes, removes, removes_all, lists, Entry, declares, commands}
-use Rattle.reader.specs.Machine.{State, opening, head, class_name, attributes, element_class, pairs, attribute, field_value, tag, closing, Step, onward, whole, fails, Outcome, taken, stopped}
+use Rattle.reader.specs.declared.state.Step.TheVariants.{Onward, Whole}
+use Rattle.reader.specs.Forms.{Act, makes, removes, removes_all, lists, Entry, declares, commands, Asked}
+use Rattle.reader.specs.Machine.{State, opening, head, class_name, attributes, element_class, pairs, attribute, field_value, tag, closing, Move, turned}
+use Rattle.languages.specs.Machines.{onward, whole, fails, Outcome, taken, stopped, place_of}
 
 -- what a command asks for
 abbrev pub act_of : Command → Act
@@ -27,44 +33,33 @@ abbrev pub entry_of : Taken → Entry
 entry_of (Declaration c) = declares (declared c)
 entry_of (Commanded c) = commands (act_of c)
 
--- the class that a form declares, and what a form commands
-abbrev pub class_in : Entry → Option Declared
-class_in (declares c) = Some c
-class_in (commands a) = None
+-- a state of the code, where the names are ns, as a state of the reading
+abbrev pub state_of : List (List ℕ) → Reading → State
+state_of ns (Opening ph) = opening ph ns
+state_of ns (Head ph) = head ph ns
+state_of ns ClassName = class_name ns
+state_of ns (Attributes c) = attributes ns (declared c)
+state_of ns ElementClass = element_class ns
+state_of ns (Pairs f) = pairs ns (declared f.class) (fields_of f.element)
+state_of ns (Attribute f) = attribute ns (declared f.class) (fields_of f.element)
+state_of ns (FieldValue f p) = field_value ns (declared f.class) (fields_of f.element) p.number
+state_of ns Tag = tag ns
+state_of ns (Closing c) = closing ns (act_of c)
 
-abbrev pub act_in : Entry → Option Act
-act_in (declares c) = None
-act_in (commands a) = Some a
+-- a turn of the code is a step of the reading, and it only adds names: ns are those before it, and ms those after it
+abbrev pub Steps : List (List ℕ) → Result Turn Cause → List (List ℕ) → Move → Type 0
+Steps ns (Ok (Onward s)) ms t = (onward (state_of ms s) ≡ t) × Grows ns ms
+Steps ns (Ok (Whole f)) ms t = (whole (entry_of f, ms) ≡ t) × Grows ns ms
+Steps ns (Err c) ms t = (fails c ≡ t) × Grows ns ms
 
--- a state of the code as a state of the reading
-abbrev pub state_of : Reading → State
-state_of Opening = opening
-state_of Head = head
-state_of ClassName = class_name
-state_of (Attributes c) = attributes (declared c)
-state_of ElementClass = element_class
-state_of (Pairs f) = pairs (declared f.class) (fields_of f.element)
-state_of (Attribute f) = attribute (declared f.class) (fields_of f.element)
-state_of (FieldValue f n) = field_value (declared f.class) (fields_of f.element) n
-state_of Tag = tag
-state_of (Closing c) = closing (act_of c)
+-- the same, of what the code answers to a word of the kind k in one of its states; where the classes do not matter, [] stands for them
+abbrev pub Turns : List Declared → List (List ℕ) → Reading → Kind → Result Turn Cause → List (List ℕ) → Type 0
+Turns cs ns s k r ms = Steps ns r ms (turned cs (state_of ns s) (sense k))
 
--- a turn of the code is a step of the reading, where the names are then ns
-abbrev pub Steps : Turn → List (List ℕ) → Step → Type 0
-Steps (Onward s) ns t = onward (state_of s) ns ≡ t
-Steps (Whole f) ns t = whole (entry_of f) ns ≡ t
-Steps (Fails c) ns t = fails c ≡ t
-
--- names are only added
-abbrev pub Grows : List (List ℕ) → List (List ℕ) → Type 0
-Grows ns ms = (added : List (List ℕ)) × (ms ≡ ns ++ added)
-
--- the first byte of the words, or the end of the text where there is none
-abbrev pub place_of : ℕ → List Lexeme → ℕ
-place_of end [] = end
-place_of end (l ∷ ls) = l.place
-
--- an answer of the code is the outcome of the reading, where the names are then ms and the words then left `after`
-abbrev pub Ran : ℕ → Result Taken Refusal → List (List ℕ) → List Lexeme → Outcome → Type 0
-Ran end (Ok form) ms after o = o ≡ taken (entry_of form) ms after
-Ran end (Err x) ms after o = (back : List Lexeme) × (o ≡ stopped x.cause back) × (x.place ≡ place_of end back)
+-- reading on from the words `before` with the names ns: the answer r is the outcome o, the names are then ms and only added to,
+-- and the words then left are those of `after`, of the same text
+abbrev pub Ran : Words → List (List ℕ) → Result Taken Refusal → List (List ℕ) → Words → Outcome Asked → Type 0
+Ran before ns (Ok form) ms after o = (o ≡ taken (entry_of form, ms) (rest after)) × Grows ns ms × (text_of after ≡ text_of before)
+Ran before ns (Err x) ms after o =
+    ((back : List Lexeme) × (o ≡ stopped x.cause back) × (x.place ≡ place_of (length (text_of before)) back))
+    × Grows ns ms × (text_of after ≡ text_of before)

@@ -3,6 +3,5 @@
 
 pub mod form;
 pub mod read;
-pub mod refusal;
 mod state;
 mod turns;

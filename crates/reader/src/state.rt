@@ -1,7 +1,7 @@
 // What the reader of a form has read, and so what may come next.
-use crate::form::{Command, Taken};
-use crate::refusal::Cause;
+use crate::form::{Command, Phase, Taken};
 use rules::class::Class;
+use rules::place::Place;
 use values::element::Element;
 
 // The element that a make has filled so far, and its class.
@@ -11,13 +11,13 @@ pub(crate) struct Filling {
     pub element: Element,
 }
 
-// What may come next.
+// What may come next. The states are data, and no closures, since the proofs speak of what each may lead to.
 #[derive(Clone, Copy)]
 pub(crate) enum State {
     // `(`
-    Opening,
-    // the word that says which form it is
-    Head,
+    Opening(Phase),
+    // the word that says which form of the phase it is
+    Head(Phase),
     // the class of a declaration
     ClassName,
     // an attribute of the class, or `)`
@@ -29,17 +29,16 @@ pub(crate) enum State {
     // an attribute of the element's class
     Attribute(Filling),
     // the value of a field
-    FieldValue(Filling, usize),
+    FieldValue(Filling, Place),
     // a time tag, or `*`
     Tag,
     // `)`
     Closing(Command),
 }
 
-// What a word does: it leads on, it ends the form, or it is refused.
+// What a word does that is not refused: it leads on, or it ends the form.
 #[derive(Clone, Copy)]
 pub(crate) enum Step {
     Onward(State),
     Whole(Taken),
-    Fails(Cause),
 }

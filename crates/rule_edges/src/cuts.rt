@@ -1,9 +1,10 @@
 // A production that is cut off after any byte.
 use crate::expect::*;
-use crate::texts::*;
-use std::alloc::Global;
+use crate::marks::*;
+use std::alloc::AllocGlobal;
 use std::process::Abort;
 use std::test::Fail;
+use texts::*;
 
 const CLASS: &[u8] = b"(literalize row id state)";
 
@@ -46,11 +47,12 @@ fn refusal_of(cut: usize) -> (u8, usize) {
     (2, cut)
 }
 
-fn expect_cuts(rt: &impl Abort, heap: Global, production: &[u8]) -> Result<(), Fail> {
+fn expect_cuts(rt: &(impl Abort + AllocGlobal), production: &[u8]) -> Result<(), Fail> {
+    let heap = rt.alloc();
     for cut in 2..production.len() {
         let text = joined(heap, CLASS, &production[0..cut])?;
         let (number, place) = refusal_of(cut);
-        expect_refused(rt, heap, &text, number, place.saturating_add(CLASS.len()))?;
+        expect_refused(rt, &text, number, place.saturating_add(CLASS.len()))?;
     }
     Ok(())
 }
@@ -59,6 +61,6 @@ fn expect_cuts(rt: &impl Abort, heap: Global, production: &[u8]) -> Result<(), F
 fn cut_off(rt: HostRuntime) -> Result<(), Fail> {
     let heap = rt.alloc();
     let whole = joined(heap, CLASS, PRODUCTION)?;
-    expect_taken(&rt, heap, &whole, 1)?;
-    expect_cuts(&rt, heap, PRODUCTION)
+    expect_taken(&rt, &whole, 1)?;
+    expect_cuts(&rt, PRODUCTION)
 }

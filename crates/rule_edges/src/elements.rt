@@ -1,6 +1,6 @@
 // The numbers by which modify and remove name a condition.
 use crate::expect::*;
-use crate::texts::*;
+use crate::marks::*;
 use std::test::Fail;
 
 // Each form with a number in place of `_`.
@@ -84,14 +84,13 @@ const TAKEN: [&[u8]; 4] = [
 
 #[test]
 fn named_conditions(rt: HostRuntime) -> Result<(), Fail> {
-    let heap = rt.alloc();
-    expect_each_refused(&rt, heap, CLASSES, &REFUSED)?;
-    expect_each_taken(&rt, heap, CLASSES, &TAKEN, 1)?;
+    expect_each_refused(&rt, CLASSES, &REFUSED)?;
+    expect_each_taken(&rt, CLASSES, &TAKEN, 1)?;
     for form in &FORMS {
-        expect_words_taken(&rt, heap, form, &ONE)?;
-        expect_words_refused(&rt, heap, form, &NONE, 5)?;
-        expect_words_refused(&rt, heap, form, &NO_NUMBER, 2)?;
-        expect_words_refused(&rt, heap, form, &ILLEGAL, 1)?;
+        expect_words_taken(&rt, form, &ONE)?;
+        expect_words_refused(&rt, form, &NONE, 5)?;
+        expect_words_refused(&rt, form, &NO_NUMBER, 2)?;
+        expect_words_refused(&rt, form, &ILLEGAL, 1)?;
     }
     Ok(())
 }

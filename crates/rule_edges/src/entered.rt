@@ -1,10 +1,11 @@
 // What productions enter into the base, and which names they add.
 use crate::expect::*;
+use crate::marks::*;
 use crate::shown::*;
-use crate::texts::*;
-use std::alloc::Global;
+use std::alloc::AllocGlobal;
 use std::process::Abort;
 use std::test::Fail;
+use texts::*;
 
 // Productions, the rules that they enter, and the names that they add, of which the first has the number 7.
 type Entered = (&'static [u8], &'static [u8], &'static [u8]);
@@ -115,10 +116,11 @@ const FORMS: [Entered; 10] = [
     ),
 ];
 
-fn expect_entered(rt: &impl Abort, heap: Global, cases: &[Entered]) -> Result<(), Fail> {
+fn expect_entered(rt: &(impl Abort + AllocGlobal), cases: &[Entered]) -> Result<(), Fail> {
+    let heap = rt.alloc();
     for (text, rules, added) in cases {
         let whole = joined(heap, CLASSES, text)?;
-        let reading = taken(rt, heap, &whole)?;
+        let reading = taken(rt, &whole)?;
         let entered = show_rules(heap, reading.base.rules())?;
         assert!(rt;
             entered.as_bytes() == *rules,
@@ -139,9 +141,8 @@ fn expect_entered(rt: &impl Abort, heap: Global, cases: &[Entered]) -> Result<()
 
 #[test]
 fn entered_rules(rt: HostRuntime) -> Result<(), Fail> {
-    let heap = rt.alloc();
-    expect_entered(&rt, heap, &TESTS)?;
-    expect_entered(&rt, heap, &FORMS)
+    expect_entered(&rt, &TESTS)?;
+    expect_entered(&rt, &FORMS)
 }
 
 // The fields of a class with fifteen attributes, and sixteen variables.
@@ -154,14 +155,14 @@ fn most_fields_and_variables(rt: HostRuntime) -> Result<(), Fail> {
         class,
         b"(p q (a ^b 1 ^p 2 ^i 3) --> (make a ^p 4 ^o 5))",
     )?;
-    let tests = numbered(heap, b" ^p <v_>", 16)?;
+    let tests = numbered(heap, b" ^p <v_>", 0..16)?;
     let second = joined(heap, &first, b"(p r (a")?;
     let most = joined(heap, &second, &tests)?;
     let whole = joined(heap, &most, b") --> (modify 1 ^b <v15>))")?;
-    let reading = taken(&rt, heap, &whole)?;
+    let reading = taken(&rt, &whole)?;
     let entered = show_rules(heap, reading.base.rules())?;
     let one = b"#17: +#1 ^1 1 ^15 2 ^8 3 --> make #1 ^15 4 ^14 5\n#18: +#1";
-    let shown = numbered(heap, b" ^15 <_>", 16)?;
+    let shown = numbered(heap, b" ^15 <_>", 0..16)?;
     let both = joined(heap, one, &shown)?;
     let expected = joined(heap, &both, b" --> modify 1 ^1 <15>\n")?;
     assert!(rt; entered.as_bytes() == expected.as_slice(), "{}", entered);

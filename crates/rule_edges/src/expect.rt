@@ -1,12 +1,13 @@
 // Reading the productions of a text, and what is expected of it.
-use crate::texts::*;
+use crate::marks::*;
 use productions::read::read_production;
 use productions::trouble::Trouble;
 use reader::read::read_declaration;
 use rules::base::{Declaring, Entering};
-use std::alloc::Global;
+use std::alloc::{AllocGlobal, Global};
 use std::process::Abort;
 use std::test::Fail;
+use texts::*;
 use values::names::Names;
 use words::text::Words;
 
@@ -34,10 +35,10 @@ type Kept = (usize, usize, Option<usize>);
 
 // The declarations of a text are read.
 pub(crate) fn declared<'a>(
-    rt: &impl Abort,
-    heap: Global,
+    rt: &(impl Abort + AllocGlobal),
     text: &'a [u8],
 ) -> Result<Reading<'a>, Fail> {
+    let heap = rt.alloc();
     let mut words = Words::new(text);
     let mut names = Names::new(heap)?;
     let mut base = Declaring::new(heap)?;
@@ -74,10 +75,7 @@ pub(crate) fn called(heap: Global, reading: &mut Reading) -> Result<Answer, Fail
 // The place of the next word.
 fn next_place(words: &Words) -> Option<usize> {
     let mut ahead = *words;
-    match ahead.next() {
-        Some(word) => Some(word.place),
-        None => None,
-    }
+    ahead.next().map(|word| word.place)
 }
 
 fn kept(reading: &Reading) -> Kept {
@@ -90,7 +88,8 @@ fn kept(reading: &Reading) -> Kept {
 
 // Productions are taken up to the first call that takes none: its answer. That call changes nothing, and made again it
 // answers the same.
-fn ended(rt: &impl Abort, heap: Global, reading: &mut Reading) -> Result<Answer, Fail> {
+fn ended(rt: &(impl Abort + AllocGlobal), reading: &mut Reading) -> Result<Answer, Fail> {
+    let heap = rt.alloc();
     for rules in 0..65usize {
         let before = kept(reading);
         let answer = called(heap, reading)?;
@@ -108,24 +107,22 @@ fn ended(rt: &impl Abort, heap: Global, reading: &mut Reading) -> Result<Answer,
 
 // All productions of a text are taken, and the call that takes none says so.
 pub(crate) fn taken<'a>(
-    rt: &impl Abort,
-    heap: Global,
+    rt: &(impl Abort + AllocGlobal),
     text: &'a [u8],
 ) -> Result<Reading<'a>, Fail> {
-    let mut reading = declared(rt, heap, text)?;
-    let answer = ended(rt, heap, &mut reading)?;
+    let mut reading = declared(rt, text)?;
+    let answer = ended(rt, &mut reading)?;
     assert_eq!(rt; answer, Answer::NoProduction, "{}", text.escape_ascii());
     Ok(reading)
 }
 
 // The text is taken whole, and has so many rules.
 pub(crate) fn expect_taken(
-    rt: &impl Abort,
-    heap: Global,
+    rt: &(impl Abort + AllocGlobal),
     text: &[u8],
     rules: usize,
 ) -> Result<(), Fail> {
-    let reading = taken(rt, heap, text)?;
+    let reading = taken(rt, text)?;
     assert_eq!(rt;
         (reading.base.count(), next_place(&reading.words)),
         (rules, None),
@@ -137,14 +134,13 @@ pub(crate) fn expect_taken(
 
 // The text is refused by this number at this place.
 pub(crate) fn expect_refused(
-    rt: &impl Abort,
-    heap: Global,
+    rt: &(impl Abort + AllocGlobal),
     text: &[u8],
     number: u8,
     place: usize,
 ) -> Result<(), Fail> {
-    let mut reading = declared(rt, heap, text)?;
-    let answer = ended(rt, heap, &mut reading)?;
+    let mut reading = declared(rt, text)?;
+    let answer = ended(rt, &mut reading)?;
     assert_eq!(rt;
         answer,
         Answer::Refused(number, place),
@@ -156,59 +152,58 @@ pub(crate) fn expect_refused(
 
 // The text behind this beginning is refused where its mark stands.
 pub(crate) fn expect_marked(
-    rt: &impl Abort,
-    heap: Global,
+    rt: &(impl Abort + AllocGlobal),
     before: &[u8],
     text: &[u8],
     number: u8,
 ) -> Result<(), Fail> {
+    let heap = rt.alloc();
     let rest = unmarked(heap, text)?;
     let whole = joined(heap, before, &rest)?;
     let place = before.len().saturating_add(mark(text));
-    expect_refused(rt, heap, &whole, number, place)
+    expect_refused(rt, &whole, number, place)
 }
 
 // Each text behind the same beginning is refused where its mark stands.
 pub(crate) fn expect_each_refused(
-    rt: &impl Abort,
-    heap: Global,
+    rt: &(impl Abort + AllocGlobal),
     before: &[u8],
     cases: &[Refused],
 ) -> Result<(), Fail> {
     for (text, number) in cases {
-        expect_marked(rt, heap, before, text, *number)?;
+        expect_marked(rt, before, text, *number)?;
     }
     Ok(())
 }
 
 // Each text behind the same beginning is taken whole, and there are then so many rules.
 pub(crate) fn expect_each_taken(
-    rt: &impl Abort,
-    heap: Global,
+    rt: &(impl Abort + AllocGlobal),
     before: &[u8],
     cases: &[&[u8]],
     rules: usize,
 ) -> Result<(), Fail> {
+    let heap = rt.alloc();
     for text in cases {
         let whole = joined(heap, before, text)?;
-        expect_taken(rt, heap, &whole, rules)?;
+        expect_taken(rt, &whole, rules)?;
     }
     Ok(())
 }
 
 // Behind the same beginning no production comes at the mark of each text, and there are then so many rules.
 pub(crate) fn expect_each_left(
-    rt: &impl Abort,
-    heap: Global,
+    rt: &(impl Abort + AllocGlobal),
     before: &[u8],
     cases: &[&[u8]],
     rules: usize,
 ) -> Result<(), Fail> {
+    let heap = rt.alloc();
     for text in cases {
         let rest = unmarked(heap, text)?;
         let whole = joined(heap, before, &rest)?;
         let place = before.len().saturating_add(mark(text));
-        let reading = taken(rt, heap, &whole)?;
+        let reading = taken(rt, &whole)?;
         assert_eq!(rt;
             (reading.base.count(), next_place(&reading.words)),
             (rules, Some(place)),
@@ -221,31 +216,31 @@ pub(crate) fn expect_each_left(
 
 // Behind the usual classes each word, in place of `_`, is refused at the mark.
 pub(crate) fn expect_words_refused(
-    rt: &impl Abort,
-    heap: Global,
+    rt: &(impl Abort + AllocGlobal),
     form: &[u8],
     words: &[&[u8]],
     number: u8,
 ) -> Result<(), Fail> {
+    let heap = rt.alloc();
     for word in words {
         let text = filled(heap, form, word)?;
-        expect_marked(rt, heap, CLASSES, &text, number)?;
+        expect_marked(rt, CLASSES, &text, number)?;
     }
     Ok(())
 }
 
 // Behind the usual classes one rule is taken with each word in place of `_`.
 pub(crate) fn expect_words_taken(
-    rt: &impl Abort,
-    heap: Global,
+    rt: &(impl Abort + AllocGlobal),
     form: &[u8],
     words: &[&[u8]],
 ) -> Result<(), Fail> {
+    let heap = rt.alloc();
     for word in words {
         let text = filled(heap, form, word)?;
         let rest = unmarked(heap, &text)?;
         let whole = joined(heap, CLASSES, &rest)?;
-        expect_taken(rt, heap, &whole, 1)?;
+        expect_taken(rt, &whole, 1)?;
     }
     Ok(())
 }

@@ -1,7 +1,8 @@
 // Forms of every shape: those that are taken, those that are refused by 2, and those that are no production.
 use crate::expect::*;
-use crate::texts::*;
+use crate::marks::*;
 use std::test::Fail;
+use texts::*;
 
 const TAKEN: [&[u8]; 32] = [
     b"(p a (c) --> )",
@@ -214,27 +215,26 @@ const LEFT_BEHIND: [&[u8]; 6] = [
 #[test]
 fn shapes(rt: HostRuntime) -> Result<(), Fail> {
     let heap = rt.alloc();
-    expect_each_taken(&rt, heap, CLASSES, &TAKEN, 1)?;
+    expect_each_taken(&rt, CLASSES, &TAKEN, 1)?;
     for filler in &FILLERS {
         let text = filled(heap, SPACED, filler)?;
-        expect_each_taken(&rt, heap, CLASSES, &[&text], 1)?;
+        expect_each_taken(&rt, CLASSES, &[&text], 1)?;
     }
-    expect_each_taken(&rt, heap, CLASSES, &[b"", b" ;(p a (c) --> )"], 0)
+    expect_each_taken(&rt, CLASSES, &[b"", b" ;(p a (c) --> )"], 0)
 }
 
 #[test]
 fn no_shapes(rt: HostRuntime) -> Result<(), Fail> {
-    let heap = rt.alloc();
-    expect_each_refused(&rt, heap, CLASSES, &HEADS)?;
-    expect_each_refused(&rt, heap, CLASSES, &CONDITIONS)?;
-    expect_each_refused(&rt, heap, CLASSES, &TESTS)?;
-    expect_each_refused(&rt, heap, CLASSES, &ACTIONS)
+    expect_each_refused(&rt, CLASSES, &HEADS)?;
+    expect_each_refused(&rt, CLASSES, &CONDITIONS)?;
+    expect_each_refused(&rt, CLASSES, &TESTS)?;
+    expect_each_refused(&rt, CLASSES, &ACTIONS)
 }
 
 #[test]
 fn no_productions(rt: HostRuntime) -> Result<(), Fail> {
     let heap = rt.alloc();
-    expect_each_left(&rt, heap, CLASSES, &LEFT, 0)?;
+    expect_each_left(&rt, CLASSES, &LEFT, 0)?;
     let one = joined(heap, CLASSES, b"(p a (c) --> )")?;
-    expect_each_left(&rt, heap, &one, &LEFT_BEHIND, 1)
+    expect_each_left(&rt, &one, &LEFT_BEHIND, 1)
 }

@@ -1,9 +1,10 @@
 // How many bytes a symbol and a variable may have.
 use crate::expect::*;
-use crate::texts::*;
-use std::alloc::Global;
+use crate::marks::*;
+use std::alloc::AllocGlobal;
 use std::process::Abort;
 use std::test::Fail;
+use texts::*;
 
 // Each `_` is a symbol of 24 bytes, and `_y` one of 25.
 const SYMBOL: &[u8] = b"abcdefghijklmnopqrstuvwx";
@@ -113,17 +114,16 @@ const VARIABLES_REFUSED: [Refused; 30] = [
 ];
 
 fn expect_filled(
-    rt: &impl Abort,
-    heap: Global,
+    rt: &(impl Abort + AllocGlobal),
     filler: &[u8],
     forms: &[&[u8]],
     cases: &[Refused],
 ) -> Result<(), Fail> {
     for form in forms {
-        expect_words_taken(rt, heap, form, &[filler])?;
+        expect_words_taken(rt, form, &[filler])?;
     }
     for (form, number) in cases {
-        expect_words_refused(rt, heap, form, &[filler], *number)?;
+        expect_words_refused(rt, form, &[filler], *number)?;
     }
     Ok(())
 }
@@ -131,8 +131,8 @@ fn expect_filled(
 #[test]
 fn bytes_of_a_word(rt: HostRuntime) -> Result<(), Fail> {
     let heap = rt.alloc();
-    expect_filled(&rt, heap, SYMBOL, &SYMBOLS_TAKEN, &SYMBOLS_REFUSED)?;
-    expect_filled(&rt, heap, VARIABLE, &VARIABLES_TAKEN, &VARIABLES_REFUSED)?;
+    expect_filled(&rt, SYMBOL, &SYMBOLS_TAKEN, &SYMBOLS_REFUSED)?;
+    expect_filled(&rt, VARIABLE, &VARIABLES_TAKEN, &VARIABLES_REFUSED)?;
     // A class and an attribute of 24 bytes.
     let class = filled(heap, b"(literalize _ _)", SYMBOL)?;
     let rule = filled(
@@ -140,7 +140,7 @@ fn bytes_of_a_word(rt: HostRuntime) -> Result<(), Fail> {
         b"(p _ (_ ^_ _) --> (make _ ^_ _) (modify 1 ^_ 1))",
         SYMBOL,
     )?;
-    expect_each_taken(&rt, heap, &class, &[&rule], 1)?;
+    expect_each_taken(&rt, &class, &[&rule], 1)?;
     let refused: [Refused; 3] = [
         (b"(p a (@abcdefghijklmnopqrstuvwxy) --> )", 3),
         (
@@ -149,5 +149,5 @@ fn bytes_of_a_word(rt: HostRuntime) -> Result<(), Fail> {
         ),
         (b"(p a (@abcdefghijklmnopqrstuvw) --> )", 3),
     ];
-    expect_each_refused(&rt, heap, &class, &refused)
+    expect_each_refused(&rt, &class, &refused)
 }

@@ -18,6 +18,8 @@ mod lengths;
 #[cfg(test)]
 mod limits;
 #[cfg(test)]
+mod marks;
+#[cfg(test)]
 mod named;
 #[cfg(test)]
 mod places;
@@ -29,8 +31,6 @@ mod shown;
 mod specificity;
 #[cfg(test)]
 mod symbols;
-#[cfg(test)]
-mod texts;
 #[cfg(test)]
 mod totals;
 #[cfg(test)]

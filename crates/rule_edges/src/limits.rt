@@ -1,7 +1,8 @@
 // The limits of one production: conditions, variables and actions; and how many productions there may be.
 use crate::expect::*;
-use crate::texts::*;
+use crate::marks::*;
 use std::test::Fail;
+use texts::*;
 
 const CONDITIONS_TAKEN: [&[u8]; 6] = [
     b"(p a (c)(c)(c)(c)(c)(c) --> )",
@@ -153,50 +154,50 @@ const MORE_REFUSED: [Refused; 15] = [
 #[test]
 fn conditions_and_actions(rt: HostRuntime) -> Result<(), Fail> {
     let heap = rt.alloc();
-    expect_each_taken(&rt, heap, CLASSES, &CONDITIONS_TAKEN, 1)?;
-    expect_each_refused(&rt, heap, CLASSES, &CONDITIONS_REFUSED)?;
-    expect_each_taken(&rt, heap, CLASSES, &ACTIONS_TAKEN, 1)?;
-    expect_each_refused(&rt, heap, CLASSES, &ACTIONS_REFUSED)?;
+    expect_each_taken(&rt, CLASSES, &CONDITIONS_TAKEN, 1)?;
+    expect_each_refused(&rt, CLASSES, &CONDITIONS_REFUSED)?;
+    expect_each_taken(&rt, CLASSES, &ACTIONS_TAKEN, 1)?;
+    expect_each_refused(&rt, CLASSES, &ACTIONS_REFUSED)?;
     // Each production counts its own.
     let full =
         b"(p r_ (c)(c)(c)(c)(c)(c)-(c)-(c) --> (halt)(halt)(halt)(halt)(halt)(halt)(halt)(halt))";
-    let many = numbered(heap, full, 64)?;
-    expect_each_taken(&rt, heap, CLASSES, &[&many], 64)
+    let many = numbered(heap, full, 0..64)?;
+    expect_each_taken(&rt, CLASSES, &[&many], 64)
 }
 
 #[test]
 fn sixteen_variables(rt: HostRuntime) -> Result<(), Fail> {
     let heap = rt.alloc();
     let begin = joined(heap, CLASSES, b"(p a (c")?;
-    let tests = numbered(heap, b" ^x <v_>", 16)?;
+    let tests = numbered(heap, b" ^x <v_>", 0..16)?;
     let bare = joined(heap, &begin, &tests)?;
-    expect_each_taken(&rt, heap, &bare, &SIXTEEN_TAKEN, 1)?;
-    expect_each_taken(&rt, heap, &bare, &[b") --> )(p b (c ^x <w>) --> )"], 2)?;
-    expect_each_refused(&rt, heap, &bare, &SIXTEEN_REFUSED)?;
-    let comparisons = numbered(heap, b" ^x = <v_>", 16)?;
+    expect_each_taken(&rt, &bare, &SIXTEEN_TAKEN, 1)?;
+    expect_each_taken(&rt, &bare, &[b") --> )(p b (c ^x <w>) --> )"], 2)?;
+    expect_each_refused(&rt, &bare, &SIXTEEN_REFUSED)?;
+    let comparisons = numbered(heap, b" ^x = <v_>", 0..16)?;
     let compared = joined(heap, &begin, &comparisons)?;
-    expect_each_taken(&rt, heap, &compared, &SIXTEEN_TAKEN, 1)?;
-    expect_each_refused(&rt, heap, &compared, &SIXTEEN_REFUSED)?;
+    expect_each_taken(&rt, &compared, &SIXTEEN_TAKEN, 1)?;
+    expect_each_refused(&rt, &compared, &SIXTEEN_REFUSED)?;
     // Those of negated conditions count, too: ten, and two for each of three.
-    let ten = numbered(heap, b" ^x <v_>", 10)?;
+    let ten = numbered(heap, b" ^x <v_>", 0..10)?;
     let first = joined(heap, &begin, &ten)?;
-    let negated = numbered(heap, b") - (c ^x <a_> ^y <b_>", 3)?;
+    let negated = numbered(heap, b") - (c ^x <a_> ^y <b_>", 0..3)?;
     let both = joined(heap, &first, &negated)?;
-    expect_each_taken(&rt, heap, &both, &[b") --> )", b") (c ^x <v9>) --> )"], 1)?;
+    expect_each_taken(&rt, &both, &[b") --> )", b") (c ^x <v9>) --> )"], 1)?;
     let refused: [Refused; 3] = [
         (b" ^x @<w>) --> )", 6),
         (b") (c ^x @<w>) --> )", 6),
         (b") (c ^x @<b2>) --> )", 4),
     ];
-    expect_each_refused(&rt, heap, &both, &refused)
+    expect_each_refused(&rt, &both, &refused)
 }
 
 #[test]
 fn sixty_four_productions(rt: HostRuntime) -> Result<(), Fail> {
     let heap = rt.alloc();
-    let rules = numbered(heap, b"(p r_ (c) --> )", 64)?;
+    let rules = numbered(heap, b"(p r_ (c) --> )", 0..64)?;
     let full = joined(heap, CLASSES, &rules)?;
-    expect_taken(&rt, heap, &full, 64)?;
-    expect_each_refused(&rt, heap, &full, &MORE_REFUSED)?;
-    expect_each_left(&rt, heap, &full, &[b"@(wm)", b"@.", b"@("], 64)
+    expect_taken(&rt, &full, 64)?;
+    expect_each_refused(&rt, &full, &MORE_REFUSED)?;
+    expect_each_left(&rt, &full, &[b"@(wm)", b"@.", b"@("], 64)
 }

@@ -1,6 +1,6 @@
 // Names: classes, attributes and productions.
 use crate::expect::*;
-use crate::texts::*;
+use crate::marks::*;
 use std::test::Fail;
 
 const CLASSES_REFUSED: [Refused; 15] = [
@@ -87,18 +87,12 @@ const SHARED: [&[u8]; 3] = [
 
 #[test]
 fn names_of_a_production(rt: HostRuntime) -> Result<(), Fail> {
-    let heap = rt.alloc();
-    expect_each_refused(&rt, heap, CLASSES, &CLASSES_REFUSED)?;
-    expect_each_refused(&rt, heap, CLASSES, &ATTRIBUTES_REFUSED)?;
-    expect_each_refused(&rt, heap, CLASSES, &TWICE)?;
-    expect_each_taken(&rt, heap, CLASSES, &TAKEN, 1)?;
-    expect_each_taken(&rt, heap, CLASSES, &[b"(p a (c) --> )(p A (c) --> )"], 2)?;
-    expect_each_taken(&rt, heap, b"", &SHARED, 1)?;
+    expect_each_refused(&rt, CLASSES, &CLASSES_REFUSED)?;
+    expect_each_refused(&rt, CLASSES, &ATTRIBUTES_REFUSED)?;
+    expect_each_refused(&rt, CLASSES, &TWICE)?;
+    expect_each_taken(&rt, CLASSES, &TAKEN, 1)?;
+    expect_each_taken(&rt, CLASSES, &[b"(p a (c) --> )(p A (c) --> )"], 2)?;
+    expect_each_taken(&rt, b"", &SHARED, 1)?;
     // No class is declared at all.
-    expect_each_refused(
-        &rt,
-        heap,
-        b"",
-        &[(b"(p a (@c) --> )", 3), (b"(p a (@nil", 3)],
-    )
+    expect_each_refused(&rt, b"", &[(b"(p a (@c) --> )", 3), (b"(p a (@nil", 3)])
 }

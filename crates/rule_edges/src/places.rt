@@ -1,9 +1,10 @@
 // What every kind of word does at every place of a production, the end of the text included.
 use crate::expect::*;
-use crate::texts::*;
-use std::alloc::Global;
+use crate::marks::*;
+use std::alloc::AllocGlobal;
 use std::process::Abort;
 use std::test::Fail;
+use texts::*;
 
 // A word of each kind.
 const WORDS: [&[u8]; 20] = [
@@ -258,29 +259,30 @@ fn effect_of(word: &[u8], follows: Follows) -> Effect {
 
 // The word has this effect behind this beginning. Where it leads on, the text ends too early.
 fn expect_effect(
-    rt: &impl Abort,
-    heap: Global,
+    rt: &(impl Abort + AllocGlobal),
     before: &[u8],
     word: &[u8],
     effect: Effect,
 ) -> Result<(), Fail> {
+    let heap = rt.alloc();
     let text = joined(heap, before, word)?;
     match effect {
-        Effect::LeadsOn => expect_refused(rt, heap, &text, 2, text.len()),
-        Effect::Completes => expect_taken(rt, heap, &text, 1),
-        Effect::Breaks(number) => expect_refused(rt, heap, &text, number, before.len()),
+        Effect::LeadsOn => expect_refused(rt, &text, 2, text.len()),
+        Effect::Completes => expect_taken(rt, &text, 1),
+        Effect::Breaks(number) => expect_refused(rt, &text, number, before.len()),
     }
 }
 
-fn expect_places(rt: &impl Abort, heap: Global, places: &[Place]) -> Result<(), Fail> {
+fn expect_places(rt: &(impl Abort + AllocGlobal), places: &[Place]) -> Result<(), Fail> {
+    let heap = rt.alloc();
     for (beginning, follows) in places {
         let before = joined(heap, CLASSES, beginning)?;
-        expect_refused(rt, heap, &before, 2, before.len())?;
+        expect_refused(rt, &before, 2, before.len())?;
         for word in &WORDS {
-            expect_effect(rt, heap, &before, word, effect_of(word, *follows))?;
+            expect_effect(rt, &before, word, effect_of(word, *follows))?;
         }
         for word in &ILLEGAL {
-            expect_effect(rt, heap, &before, word, Effect::Breaks(1))?;
+            expect_effect(rt, &before, word, Effect::Breaks(1))?;
         }
     }
     Ok(())
@@ -288,8 +290,7 @@ fn expect_places(rt: &impl Abort, heap: Global, places: &[Place]) -> Result<(), 
 
 #[test]
 fn every_word_at_every_place(rt: HostRuntime) -> Result<(), Fail> {
-    let heap = rt.alloc();
-    expect_places(&rt, heap, &FIRST)?;
-    expect_places(&rt, heap, &LATER)?;
-    expect_places(&rt, heap, &ACTIONS)
+    expect_places(&rt, &FIRST)?;
+    expect_places(&rt, &LATER)?;
+    expect_places(&rt, &ACTIONS)
 }

@@ -1,8 +1,9 @@
 // A refused production leaves the names, the rules and the words as they were; and places by their numbers.
 use crate::expect::*;
+use crate::marks::*;
 use crate::shown::*;
-use crate::texts::*;
 use std::test::Fail;
+use texts::*;
 use words::text::Words;
 
 // Each has new names before its broken word, behind `(p first (c ^x old) --> )`.
@@ -38,7 +39,7 @@ fn refused_productions(rt: HostRuntime) -> Result<(), Fail> {
     let before = joined(heap, CLASSES, b"(p first (c ^x old) --> )")?;
     for text in &REFUSED {
         let whole = joined(heap, &before, text)?;
-        let mut reading = declared(&rt, heap, &whole)?;
+        let mut reading = declared(&rt, &whole)?;
         assert_eq!(rt; called(heap, &mut reading)?, Answer::Taken);
         let refused = called(heap, &mut reading)?;
         assert_ne!(rt; refused, Answer::Taken);
@@ -87,9 +88,8 @@ const PLACES: [(&[u8], u8, usize); 15] = [
 
 #[test]
 fn places_by_number(rt: HostRuntime) -> Result<(), Fail> {
-    let heap = rt.alloc();
     for (text, number, place) in &PLACES {
-        expect_refused(&rt, heap, text, *number, *place)?;
+        expect_refused(&rt, text, *number, *place)?;
     }
     Ok(())
 }

@@ -25,20 +25,8 @@ fn show_term(heap: Global, term: Term) -> Result<String, AllocError> {
     }
 }
 
-fn spelling(predicate: Predicate) -> &'static str {
-    match predicate {
-        Predicate::Equal => "=",
-        Predicate::Unequal => "<>",
-        Predicate::Less => "<",
-        Predicate::AtMost => "<=",
-        Predicate::Greater => ">",
-        Predicate::AtLeast => ">=",
-        Predicate::SameKind => "<=>",
-    }
-}
-
 fn show_comparison(heap: Global, predicate: Predicate, term: Term) -> Result<String, AllocError> {
-    let relation = spelling(predicate);
+    let relation = predicate.bytes().escape_ascii();
     let operand = show_term(heap, term)?;
     format!(in heap; "{relation} {operand}")
 }

@@ -1,9 +1,10 @@
 // How specific productions are.
 use crate::expect::*;
-use crate::texts::*;
-use std::alloc::Global;
+use crate::marks::*;
+use std::alloc::AllocGlobal;
 use std::process::Abort;
 use std::test::Fail;
+use texts::*;
 
 // A production, and its specificity.
 type Specific = (&'static [u8], usize);
@@ -67,12 +68,11 @@ const SPECIFIC: [Specific; 43] = [
 ];
 
 fn expect_specific(
-    rt: &impl Abort,
-    heap: Global,
+    rt: &(impl Abort + AllocGlobal),
     text: &[u8],
     specificity: usize,
 ) -> Result<(), Fail> {
-    let reading = taken(rt, heap, text)?;
+    let reading = taken(rt, text)?;
     for rule in reading.base.rules() {
         assert_eq!(rt; rule.specificity(), specificity, "{}", text.escape_ascii());
     }
@@ -85,25 +85,25 @@ fn specific_productions(rt: HostRuntime) -> Result<(), Fail> {
     let heap = rt.alloc();
     for (text, specificity) in &SPECIFIC {
         let whole = joined(heap, CLASSES, text)?;
-        expect_specific(&rt, heap, &whole, *specificity)?;
+        expect_specific(&rt, &whole, *specificity)?;
     }
     // One for the class and one for each of 511 constants, or for each of 256 of a choice.
     let begin = joined(heap, CLASSES, b"(p a (c")?;
-    let tests = repeated(heap, b" ^x 1", 511)?;
+    let tests = b" ^x 1".repeat(heap, 511)?;
     let most = joined(heap, &begin, &tests)?;
     let whole = joined(heap, &most, b") --> )")?;
-    expect_specific(&rt, heap, &whole, 512)?;
-    let constants = repeated(heap, b" red", 256)?;
+    expect_specific(&rt, &whole, 512)?;
+    let constants = b" red".repeat(heap, 256)?;
     let choice = joined(heap, &begin, b" ^x <<")?;
     let most = joined(heap, &choice, &constants)?;
     let whole = joined(heap, &most, b" >>) --> )")?;
-    expect_specific(&rt, heap, &whole, 257)?;
+    expect_specific(&rt, &whole, 257)?;
     // Sixteen variables, and each again.
-    let first = numbered(heap, b" ^x <v_>", 16)?;
+    let first = numbered(heap, b" ^x <v_>", 0..16)?;
     let met = joined(heap, &begin, &first)?;
     let again = joined(heap, &met, &first)?;
     let whole = joined(heap, &again, b") --> )")?;
-    expect_specific(&rt, heap, &whole, 17)
+    expect_specific(&rt, &whole, 17)
 }
 
 // A variable of an earlier production is met anew.
@@ -115,7 +115,7 @@ fn specific_each(rt: HostRuntime) -> Result<(), Fail> {
         CLASSES,
         b"(p a (c ^x <v>) --> )(p b (c ^x <v>) --> )(p d (c ^y <v>) --> )",
     )?;
-    let reading = taken(&rt, heap, &whole)?;
+    let reading = taken(&rt, &whole)?;
     assert_eq!(rt; reading.base.count(), 3);
     for rule in reading.base.rules() {
         assert_eq!(rt; rule.specificity(), 1);

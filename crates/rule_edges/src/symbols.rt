@@ -1,7 +1,8 @@
 // How many names there may be.
 use crate::expect::*;
-use crate::texts::*;
+use crate::marks::*;
 use std::test::Fail;
+use texts::*;
 
 // Sixteen names each.
 const SIXTEEN: &[u8] = b"(literalize c_ a_ b_ d_ e_ f_ g_ h_ i_ j_ k_ l_ m_ n_ o_ p_)";
@@ -74,18 +75,18 @@ const ONE_REFUSED: [Refused; 10] = [
 #[test]
 fn names_of_a_base(rt: HostRuntime) -> Result<(), Fail> {
     let heap = rt.alloc();
-    let fifteen = numbered(heap, SIXTEEN, 15)?;
+    let fifteen = numbered(heap, SIXTEEN, 0..15)?;
     let full = joined(
         heap,
         &fifteen,
         b"(literalize z a b c d e f g h i j k l m n)",
     )?;
-    expect_each_taken(&rt, heap, &full, &FULL_TAKEN, 1)?;
-    expect_each_refused(&rt, heap, &full, &FULL_REFUSED)?;
+    expect_each_taken(&rt, &full, &FULL_TAKEN, 1)?;
+    expect_each_refused(&rt, &full, &FULL_REFUSED)?;
     let one = joined(heap, &fifteen, b"(literalize z a b c d e f g h i j k l m)")?;
-    expect_each_taken(&rt, heap, &one, &ONE_TAKEN, 1)?;
-    expect_each_refused(&rt, heap, &one, &ONE_REFUSED)?;
-    let reading = taken(&rt, heap, &full)?;
+    expect_each_taken(&rt, &one, &ONE_TAKEN, 1)?;
+    expect_each_refused(&rt, &one, &ONE_REFUSED)?;
+    let reading = taken(&rt, &full)?;
     assert_eq!(rt; reading.names.count(), 256);
     Ok(())
 }

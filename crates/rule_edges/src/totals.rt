@@ -1,7 +1,8 @@
 // The limits of all productions together: tests, constants of choices and settings.
 use crate::expect::*;
-use crate::texts::*;
+use crate::marks::*;
 use std::test::Fail;
+use texts::*;
 
 // In the first condition, behind 512 tests.
 const TESTS_TAKEN: [&[u8]; 2] = [
@@ -153,58 +154,58 @@ const SETTINGS_REFUSED: [Refused; 26] = [
 fn tests_of_a_base(rt: HostRuntime) -> Result<(), Fail> {
     let heap = rt.alloc();
     let begin = joined(heap, CLASSES, b"(p a (c")?;
-    let most = repeated(heap, b" ^x 1", 510)?;
+    let most = b" ^x 1".repeat(heap, 510)?;
     let before_last = joined(heap, &begin, &most)?;
-    expect_each_taken(&rt, heap, &before_last, &LAST_TEST_TAKEN, 1)?;
-    expect_each_taken(&rt, heap, &before_last, &[b") --> )(p b (c) --> )"], 2)?;
-    expect_each_refused(&rt, heap, &before_last, &LAST_TEST_REFUSED)?;
+    expect_each_taken(&rt, &before_last, &LAST_TEST_TAKEN, 1)?;
+    expect_each_taken(&rt, &before_last, &[b") --> )(p b (c) --> )"], 2)?;
+    expect_each_refused(&rt, &before_last, &LAST_TEST_REFUSED)?;
     let full = joined(heap, &before_last, b" ^y << red 1 >>")?;
-    expect_each_taken(&rt, heap, &full, &TESTS_TAKEN, 1)?;
-    expect_each_refused(&rt, heap, &full, &TESTS_REFUSED)?;
+    expect_each_taken(&rt, &full, &TESTS_TAKEN, 1)?;
+    expect_each_refused(&rt, &full, &TESTS_REFUSED)?;
     // 1 and 2 and 1 of the three conditions, and 508.
     let met = joined(heap, CLASSES, b"(p a (c) - (c ^x <v>) (c")?;
-    let rest = repeated(heap, b" ^x 1", 508)?;
+    let rest = b" ^x 1".repeat(heap, 508)?;
     let full = joined(heap, &met, &rest)?;
-    expect_each_taken(&rt, heap, &full, &[b") --> )"], 1)?;
-    expect_each_refused(&rt, heap, &full, &MET_REFUSED)
+    expect_each_taken(&rt, &full, &[b") --> )"], 1)?;
+    expect_each_refused(&rt, &full, &MET_REFUSED)
 }
 
 #[test]
 fn constants_of_a_base(rt: HostRuntime) -> Result<(), Fail> {
     let heap = rt.alloc();
     let begin = joined(heap, CLASSES, b"(p a (c ^x <<")?;
-    let constants = repeated(heap, b" 1", 256)?;
+    let constants = b" 1".repeat(heap, 256)?;
     let one = joined(heap, &begin, &constants)?;
-    expect_each_taken(&rt, heap, &one, &CONSTANTS_TAKEN, 1)?;
-    expect_each_refused(&rt, heap, &one, &CONSTANTS_REFUSED)?;
+    expect_each_taken(&rt, &one, &CONSTANTS_TAKEN, 1)?;
+    expect_each_refused(&rt, &one, &CONSTANTS_REFUSED)?;
     // In two choices: 100 times `red`, and 156 different numbers.
-    let red = repeated(heap, b" red", 100)?;
+    let red = b" red".repeat(heap, 100)?;
     let first = joined(heap, &begin, &red)?;
     let second = joined(heap, &first, b" >> ^y <<")?;
-    let different = numbered(heap, b" _", 156)?;
+    let different = numbered(heap, b" _", 0..156)?;
     let two = joined(heap, &second, &different)?;
-    expect_each_taken(&rt, heap, &two, &CONSTANTS_TAKEN, 1)?;
-    expect_each_refused(&rt, heap, &two, &CONSTANTS_REFUSED)
+    expect_each_taken(&rt, &two, &CONSTANTS_TAKEN, 1)?;
+    expect_each_refused(&rt, &two, &CONSTANTS_REFUSED)
 }
 
 #[test]
 fn settings_of_a_base(rt: HostRuntime) -> Result<(), Fail> {
     let heap = rt.alloc();
-    let settings = repeated(heap, b" ^x 1", 255)?;
+    let settings = b" ^x 1".repeat(heap, 255)?;
     let make = joined(heap, CLASSES, b"(p a (c ^y <v>) --> (make c ^y <v>")?;
     let made = joined(heap, &make, &settings)?;
-    expect_each_taken(&rt, heap, &made, &SETTINGS_TAKEN, 1)?;
-    expect_each_refused(&rt, heap, &made, &SETTINGS_REFUSED)?;
+    expect_each_taken(&rt, &made, &SETTINGS_TAKEN, 1)?;
+    expect_each_refused(&rt, &made, &SETTINGS_REFUSED)?;
     // Two of an earlier action, and 254.
     let two = joined(
         heap,
         CLASSES,
         b"(p a (c ^y <v>) --> (make c ^x 1 ^y 2) (modify 1",
     )?;
-    let rest = repeated(heap, b" ^x red", 254)?;
+    let rest = b" ^x red".repeat(heap, 254)?;
     let modified = joined(heap, &two, &rest)?;
-    expect_each_taken(&rt, heap, &modified, &SETTINGS_TAKEN, 1)?;
-    expect_each_refused(&rt, heap, &modified, &SETTINGS_REFUSED)
+    expect_each_taken(&rt, &modified, &SETTINGS_TAKEN, 1)?;
+    expect_each_refused(&rt, &modified, &SETTINGS_REFUSED)
 }
 
 // A production with eight tests, four constants and four settings, of which there may be 64.
@@ -239,17 +240,17 @@ const LAST_REFUSED: [Refused; 5] = [
 #[test]
 fn productions_together(rt: HostRuntime) -> Result<(), Fail> {
     let heap = rt.alloc();
-    let rules = numbered(heap, EIGHTH, 64)?;
+    let rules = numbered(heap, EIGHTH, 0..64)?;
     let whole = joined(heap, CLASSES, &rules)?;
-    let reading = taken(&rt, heap, &whole)?;
+    let reading = taken(&rt, &whole)?;
     let size = reading.base.size();
     assert_eq!(rt;
         (size.tests, size.constants, size.settings),
         (512, 256, 256)
     );
     assert_eq!(rt; reading.base.count(), 64);
-    let fewer = numbered(heap, EIGHTH, 63)?;
+    let fewer = numbered(heap, EIGHTH, 0..63)?;
     let before = joined(heap, CLASSES, &fewer)?;
-    expect_each_taken(&rt, heap, &before, &LAST_TAKEN, 64)?;
-    expect_each_refused(&rt, heap, &before, &LAST_REFUSED)
+    expect_each_taken(&rt, &before, &LAST_TAKEN, 64)?;
+    expect_each_refused(&rt, &before, &LAST_REFUSED)
 }

@@ -1,6 +1,6 @@
 // Where a variable may be met.
 use crate::expect::*;
-use crate::texts::*;
+use crate::marks::*;
 use std::test::Fail;
 
 // A predicate other than `=` in place of `_` gives no variable its value.
@@ -102,15 +102,14 @@ const TWO: [&[u8]; 2] = [
 
 #[test]
 fn variables_met(rt: HostRuntime) -> Result<(), Fail> {
-    let heap = rt.alloc();
-    expect_each_refused(&rt, heap, CLASSES, &REFUSED)?;
-    expect_each_taken(&rt, heap, CLASSES, &TAKEN, 1)?;
-    expect_each_taken(&rt, heap, CLASSES, &TWO, 2)?;
+    expect_each_refused(&rt, CLASSES, &REFUSED)?;
+    expect_each_taken(&rt, CLASSES, &TAKEN, 1)?;
+    expect_each_taken(&rt, CLASSES, &TWO, 2)?;
     for form in &UNDER {
-        expect_words_refused(&rt, heap, form, &PREDICATES, 4)?;
+        expect_words_refused(&rt, form, &PREDICATES, 4)?;
     }
     for form in &MET {
-        expect_words_taken(&rt, heap, form, &PREDICATES)?;
+        expect_words_taken(&rt, form, &PREDICATES)?;
     }
     Ok(())
 }

@@ -1,70 +1,39 @@
--- Looking up attributes and classes, and one more of each. Assumes nothing.
-use Rattle.std.proofs.Common.{◌≡◌, ℕ, ◌+◌, ◌<◌, ◌≤◌, false, cond, eqb, leb, List, [], ◌∷◌, ◌++◌, length, get_or, take, drop, set, is_some, Some, None, Ok, Err, vec_items, vec_len, Option, sym, refl, ap, ◌∙◌, arith, length-take-le, get_or-take, eq-eqb, ne_eqb, le-leb}
-use borrow.Author.Tests.{lt-leb}
-use Rattle.std.proofs.lemmas.List.{at_drop_more, at_drop_all, take_more_set}
-use Rattle.std.proofs.lemmas.Bool.{cond-true, cond-false}
+-- Looking up attributes, classes and rules. Assumes nothing.
+use Rattle.std.proofs.Common.{◌≡◌, ℕ, ◌+◌, ◌≤◌, Bool, true, false, cond, ◌||◌, eqb, List, [], ◌∷◌, map, length, Some, refl, ap, arith}
+use Rattle.std.proofs.lemmas.List.{length-take}
+use Rattle.std.specs.List.{position_from, find, list_any}
 use Rattle.std.specs.Option.{option_map}
-use Rattle.values.proofs.Mapped.{mapped_length}
-use Rattle.rules.specs.Attributes.{Declared, declared, field_of, with_attribute, answer_add, after_add}
-use Rattle.rules.specs.Declarations.{classes_of, find_class, answer_declare, after_declare}
+use Rattle.values.specs.Firsts.{first_from}
+use Rattle.rules.specs.Attributes.{declared}
+use Rattle.rules.specs.Declarations.{find_class}
+use Rattle.rules.specs.Ruled.{rules_of}
+use Rattle.rules.specs.Bases.{rule_named}
 use Rattle.rules.specs.declared.class.Class.{Class}
-use Rattle.rules.specs.declared.class.ClassRefusal.TheVariants.{TooMany}
-use Rattle.rules.specs.declared.classes.Classes.{Classes}
+use Rattle.rules.specs.declared.rule.Rule.{Rule}
 
-pub counted : (c : Class) → length (declared c).attributes ≡ c.count
-counted c = length-take-le c.count c.attributes (omega (arith, c.few, c.fifteen))
+-- no class has more than fifteen attributes
+pub fifteen : (c : Class) → length (declared c).attributes ≤ 15
+fifteen c = omega (arith, c.attributes.short, length-take c.attributes.len c.attributes.bytes)
 
--- an attribute, as the code reads it
-pub attribute-at : (c : Class) (i : ℕ) → i < c.count → get_or (declared c).attributes i 0 ≡ get_or c.attributes i 0
-attribute-at c i h = get_or-take c.count c.attributes i 0 h
+-- a place counted from one more
+pub counted_on : {X : Type 0} (test : X → Bool) (n : ℕ) (xs : List X) → option_map (λ p. p + 1) (position_from test n xs) ≡ first_from test (n + 1) xs
+counted_on test n [] = refl
+counted_on test n (x ∷ xs) = go (test x) (counted_on test (n + 1) xs)
+  where
+    go : (b : Bool) → option_map (λ p. p + 1) (position_from test (n + 1) xs) ≡ first_from test (n + 1 + 1) xs → option_map (λ p. p + 1) (cond b (Some n) (position_from test (n + 1) xs)) ≡ cond b (Some (n + 1)) (first_from test (n + 1 + 1) xs)
+    go true e = refl
+    go false e = e
 
--- one attribute more
-module _ (c : Declared) (a : ℕ) (new : is_some (field_of c a) ≡ false) (room : length c.attributes < 15) where
-  pub added-answer : Ok tt ≡ answer_add c a
-  added-answer = sym (cond-false (is_some (field_of c a)) _ _ new ∙ cond-false (leb 15 (length c.attributes)) _ _ (lt-leb 15 (length c.attributes) room))
+-- looking through the code's classes is looking through the declared ones
+pub found-class : (cs : List Class) (n : ℕ) → option_map declared (find (λ c. eqb c.name n) cs) ≡ find_class (map declared cs) n
+found-class [] n = refl
+found-class (c ∷ cs) n = go (eqb c.name n) (found-class cs n)
+  where
+    go : (b : Bool) → option_map declared (find (λ c. eqb c.name n) cs) ≡ find_class (map declared cs) n → option_map declared (cond b (Some c) (find (λ c. eqb c.name n) cs)) ≡ cond b (Some (declared c)) (find_class (map declared cs) n)
+    go true e = refl
+    go false e = e
 
-  pub added-after : (c' : Declared) → c' ≡ with_attribute c a → c' ≡ after_add c a
-  added-after c' e = e ∙ sym (cond-false (is_some (field_of c a)) _ _ new ∙ cond-false (leb 15 (length c.attributes)) _ _ (lt-leb 15 (length c.attributes) room))
-
-pub pushed : (name : ℕ) (xs ys : List ℕ) (n a : ℕ) → n < length xs → ys ≡ set xs n a → ◌≡◌ {A = Declared} (record { name = name; attributes = take (n + 1) ys }) (with_attribute (record { name = name; attributes = take n xs }) a)
-pushed name xs ys n a h e = ap (λ l. record { name = name; attributes = l }) (ap (take (n + 1)) e ∙ take_more_set xs n a h)
-
--- the class at the place i
-pub class_hit : (cs : List Declared) (i n : ℕ) (c : Declared) → i < length cs → c ≡ get_or cs i c → c.name ≡ n → find_class (drop i cs) n ≡ Some c
-class_hit cs i n c h e g =
-    at_drop_more (λ l. find_class l n) cs i c h
-    ∙ ap (λ x. cond (eqb x.name n) (Some x) (find_class (drop (i + 1) cs) n)) (sym e)
-    ∙ cond-true (eqb c.name n) _ _ (eq-eqb c.name n g)
-
-pub class_miss : (cs : List Declared) (i n : ℕ) (c : Declared) → i < length cs → c ≡ get_or cs i c → (c.name ≡ n → ⊥) → find_class (drop i cs) n ≡ find_class (drop (i + 1) cs) n
-class_miss cs i n c h e g =
-    at_drop_more (λ l. find_class l n) cs i c h
-    ∙ ap (λ x. cond (eqb x.name n) (Some x) (find_class (drop (i + 1) cs) n)) (sym e)
-    ∙ cond-false (eqb c.name n) _ _ (ne_eqb c.name n g)
-
-pub class_none : (cs : List Declared) (i n : ℕ) → length cs ≤ i → find_class (drop i cs) n ≡ None
-class_none cs i n h = at_drop_all (λ l. find_class l n) cs i h
-
-pub classes-counted : (c : Classes) → length (classes_of c) ≡ vec_len c.list
-classes-counted c = mapped_length declared (vec_items c.list) (vec_items c.list) refl ∙ sym c.list.ok.0
-
-mapped_some : (o : Option Class) → is_some o ≡ is_some (option_map declared o)
-mapped_some None = refl
-mapped_some (Some c) = refl
-
--- one class more
-module _ (cs : List Declared) (c : Declared) (o : Option Class) (looked : option_map declared o ≡ find_class cs c.name) (new : false ≡ is_some o) where
-  undeclared : is_some (find_class cs c.name) ≡ false
-  undeclared = ap is_some (sym looked) ∙ sym (mapped_some o) ∙ sym new
-
-  pub full_answer : 16 ≤ length cs → (Err TooMany ≡ answer_declare cs c) × (cs ≡ after_declare cs c)
-  full_answer h = (
-    sym (cond-false (is_some (find_class cs c.name)) _ _ undeclared ∙ cond-true (leb 16 (length cs)) _ _ (le-leb 16 (length cs) h)),
-    sym (cond-false (is_some (find_class cs c.name)) _ _ undeclared ∙ cond-true (leb 16 (length cs)) _ _ (le-leb 16 (length cs) h)),
-  )
-
-  pub declared-answer : length cs < 16 → (Ok tt ≡ answer_declare cs c) × (cs ++ c ∷ [] ≡ after_declare cs c)
-  declared-answer h = (
-    sym (cond-false (is_some (find_class cs c.name)) _ _ undeclared ∙ cond-false (leb 16 (length cs)) _ _ (lt-leb 16 (length cs) h)),
-    sym (cond-false (is_some (find_class cs c.name)) _ _ undeclared ∙ cond-false (leb 16 (length cs)) _ _ (lt-leb 16 (length cs) h)),
-  )
+-- and likewise the code's rules
+pub rule_found : (rs : List Rule) (n : ℕ) → list_any (λ r. eqb r.name n) rs ≡ rule_named (rules_of rs) n
+rule_found [] n = refl
+rule_found (r ∷ rs) n = ap (λ b. eqb r.name n || b) (rule_found rs n)

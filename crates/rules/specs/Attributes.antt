@@ -1,9 +1,10 @@
 -- What a class means, and one attribute more. Assumes nothing.
-use Rattle.std.specs.Prelude.{ℕ, cond, List, [], ◌∷◌, ◌++◌, length, take, is_some, Ok, Err, Option, Result, nat_eq, nat_le}
+use Rattle.std.specs.Prelude.{ℕ, cond, List, [], ◌∷◌, ◌++◌, length, is_some, Ok, Err, Option, Result, nat_eq, nat_le}
 use Rattle.values.specs.Firsts.{first_from}
+use Rattle.rows.specs.Shorts.{bytes_of}
 use Rattle.rules.specs.declared.class.Class.{Class}
-use Rattle.rules.specs.declared.class.ClassRefusal.{ClassRefusal}
-use Rattle.rules.specs.declared.class.ClassRefusal.TheVariants.{Twice, TooMany}
+use Rattle.rules.specs.declared.refusal.NotTaken.{NotTaken}
+use Rattle.rules.specs.declared.refusal.NotTaken.TheVariants.{Twice, TooMany}
 
 -- a class by the numbers of its symbols, the attributes in the order of the declaration
 pub record Declared : Type 0 where
@@ -12,7 +13,7 @@ pub record Declared : Type 0 where
 
 -- what a class of the code means
 abbrev pub declared : Class → Declared
-declared c = record { name = c.name; attributes = take c.count c.attributes }
+declared c = record { name = c.name; attributes = bytes_of c.attributes }
 
 -- a class without attributes
 abbrev pub new_class : ℕ → Declared
@@ -27,7 +28,7 @@ abbrev pub with_attribute : Declared → ℕ → Declared
 with_attribute c a = record { name = c.name; attributes = c.attributes ++ a ∷ [] }
 
 -- an attribute that the class has already is refused, then a sixteenth
-abbrev pub answer_add : Declared → ℕ → Result (Unit {0}) ClassRefusal
+abbrev pub answer_add : Declared → ℕ → Result (Unit {0}) NotTaken
 answer_add c a = cond (is_some (field_of c a)) (Err Twice) (cond (nat_le 15 (length c.attributes)) (Err TooMany) (Ok tt))
 
 -- the class after that; a refusal changes nothing

@@ -11,27 +11,19 @@ use crate::condition::Condition;
 pub fn count_unnegated(conditions: &[Condition]) -> usize
     ensures { result ≡ length (unnegated (conditions_of conditions.now)) }
 {
-    let mut n = 0;
-    for condition in conditions {
-        if !condition.negated {
-            n += 1;
-        }
-    }
-    n
+    conditions
+        .iter()
+        .filter(|condition| !condition.negated)
+        .count()
 }
 
 // The class of the unnegated condition with this number, counted from 1, or none where no condition has it.
 pub fn unnegated_class(conditions: &[Condition], number: usize) -> Option<Class>
     ensures { MatchOption result (names_condition (conditions_of conditions.now) number ≡ false) (λ c. (names_condition (conditions_of conditions.now) number ≡ true) × (declared c ≡ condition_class (conditions_of conditions.now) number)) }
 {
-    let mut n: usize = 0;
-    for condition in conditions {
-        if !condition.negated {
-            n += 1;
-            if n == number {
-                return Some(condition.class);
-            }
-        }
-    }
-    None
+    conditions
+        .iter()
+        .filter(|condition| !condition.negated)
+        .nth(number.checked_sub(1)?)
+        .map(|condition| condition.class)
 }

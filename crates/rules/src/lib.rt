@@ -8,6 +8,8 @@ pub mod classes;
 pub mod condition;
 pub mod conditions;
 pub mod place;
+pub mod refusal;
 pub mod rule;
+mod rules;
 pub mod size;
 pub mod specificity;

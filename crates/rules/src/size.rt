@@ -4,7 +4,7 @@ ghost use Rattle.rules.specs.Rules.{test_of, field_tests_of, conditions_of, acti
 ghost use Rattle.rules.specs.Sizes.{size_meant, together, excessive, tests_in, test_constants, tests_constants, constants_in, action_settings, settings_in};
 
 use crate::action::Action;
-use crate::condition::{Condition, FieldTest, Test};
+use crate::condition::{Condition, Test};
 
 // How many tests, constants of choices and settings the rules of a base may have.
 pub const MOST_TESTS: usize = 512;
@@ -14,7 +14,7 @@ pub const MOST_CONSTANTS: usize = 256;
 pub const MOST_SETTINGS: usize = 256;
 
 // How many tests, constants of choices and settings there are.
-#[derive(Clone, Copy)]
+#[derive(Clone, Copy, PartialEq, Eq, Default, Debug)]
 pub struct Size {
     pub tests: usize,
     pub constants: usize,
@@ -49,11 +49,10 @@ pub(crate) fn tests_in(conditions: &[Condition]) -> usize
     requires { tests_in (conditions_of conditions.now) < 2 ^ 64 }
     ensures { result ≡ tests_in (conditions_of conditions.now) }
 {
-    let mut sum = 0;
-    for condition in conditions {
-        sum += 1 + condition.tests.len();
-    }
-    sum
+    conditions
+        .iter()
+        .map(|condition| 1 + condition.tests.len())
+        .sum()
 }
 
 // The constants of a choice; another test has none.
@@ -66,28 +65,16 @@ fn test_constants(test: &Test) -> usize
     }
 }
 
-// The constants of the choices among tests.
-fn tests_constants(tests: &[FieldTest]) -> usize
-    requires { tests_constants (field_tests_of tests.now) < 2 ^ 64 }
-    ensures { result ≡ tests_constants (field_tests_of tests.now) }
-{
-    let mut sum = 0;
-    for test in tests {
-        sum += test_constants(&test.test);
-    }
-    sum
-}
-
 // The constants of the choices in conditions.
 pub(crate) fn constants_in(conditions: &[Condition]) -> usize
     requires { constants_in (conditions_of conditions.now) < 2 ^ 64 }
     ensures { result ≡ constants_in (conditions_of conditions.now) }
 {
-    let mut sum = 0;
-    for condition in conditions {
-        sum += tests_constants(&condition.tests);
-    }
-    sum
+    conditions
+        .iter()
+        .flat_map(|condition| condition.tests.iter())
+        .map(|test| test_constants(&test.test))
+        .sum()
 }
 
 // The settings of an action.
@@ -107,9 +94,5 @@ pub(crate) fn settings_in(actions: &[Action]) -> usize
     requires { settings_in (actions_of actions.now) < 2 ^ 64 }
     ensures { result ≡ settings_in (actions_of actions.now) }
 {
-    let mut sum = 0;
-    for action in actions {
-        sum += action_settings(action);
-    }
-    sum
+    actions.iter().map(action_settings).sum()
 }

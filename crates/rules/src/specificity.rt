@@ -83,8 +83,6 @@ pub(crate) fn conditions_count(conditions: &[Condition]) -> usize
 }
 
 // The specificity of a rule whose only test is a choice of two constants.
-pub fn specificity_example() -> u8
+pub fn specificity_example()
     ensures { TwoConstants }
-{
-    0
-}
+{}

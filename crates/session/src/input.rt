@@ -1,6 +1,6 @@
 // Reading the text of a session.
 use crate::trouble::Trouble;
-use reader::read::LONGEST_TEXT;
+use languages::text::LONGEST_TEXT;
 use std::alloc::Global;
 use std::io::Read;
 use std::{env, fs, io};
@@ -22,10 +22,7 @@ fn read_file(rt: &HostRuntime, name: &str) -> io::Result<Vec<u8>> {
 
 // The one argument, or none where there is none.
 fn file_name(rt: &HostRuntime) -> Result<Option<String>, Trouble> {
-    let mut arguments = match env::args(rt) {
-        Ok(arguments) => arguments,
-        Err(error) => return Err(Trouble::Arguments(error)),
-    };
+    let mut arguments = env::args(rt).map_err(Trouble::Arguments)?;
     let _program = arguments.next();
     let name = arguments.next();
     match arguments.next() {
@@ -37,13 +34,7 @@ fn file_name(rt: &HostRuntime) -> Result<Option<String>, Trouble> {
 // The text of the file that is named, or of standard input.
 pub(crate) fn read_text(rt: &HostRuntime) -> Result<Vec<u8>, Trouble> {
     match file_name(rt)? {
-        None => match read_some(rt.alloc(), rt.stdin()) {
-            Ok(text) => Ok(text),
-            Err(error) => Err(Trouble::Input(error)),
-        },
-        Some(name) => match read_file(rt, name.as_str()) {
-            Ok(text) => Ok(text),
-            Err(error) => Err(Trouble::File(name, error)),
-        },
+        None => read_some(rt.alloc(), rt.stdin()).map_err(Trouble::Input),
+        Some(name) => read_file(rt, name.as_str()).map_err(|error| Trouble::File(name, error)),
     }
 }

@@ -12,13 +12,8 @@ use trouble::Trouble;
 
 fn session(rt: &HostRuntime) -> Result<(), Trouble> {
     let text = read_text(rt)?;
-    let Ok(printed) = run(rt.alloc(), &text) else {
-        return Err(Trouble::NoMemory);
-    };
-    match rt.stdout().write_all(&printed) {
-        Ok(()) => Ok(()),
-        Err(error) => Err(Trouble::Unwritten(error)),
-    }
+    let printed = run(rt.alloc(), &text)?;
+    rt.stdout().write_all(&printed).map_err(Trouble::Unwritten)
 }
 
 fn main(rt: HostRuntime) -> ExitCode {

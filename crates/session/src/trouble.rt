@@ -1,4 +1,5 @@
 // What keeps a session from running.
+use std::alloc::AllocError;
 use std::{fmt, io};
 
 #[derive(Drop)]
@@ -15,6 +16,12 @@ pub(crate) enum Trouble {
     NoMemory,
     // Standard output cannot be written.
     Unwritten(io::Error),
+}
+
+impl From<AllocError> for Trouble {
+    fn from(_error: AllocError) -> Trouble {
+        Trouble::NoMemory
+    }
 }
 
 impl fmt::Display for Trouble {

@@ -1,4 +1,3 @@
 pub mod Digits
-pub mod Spelling
 pub mod Scans
 pub mod Standing

@@ -1,12 +1,11 @@
 -- What one byte does to the words that are left. Assumes nothing.
-use Rattle.std.proofs.Common.{◌≡◌, ℕ, ◌+◌, ◌-◌, ◌<◌, ◌≤◌, ◌⊎◌, List, [], ◌∷◌, ◌++◌, length, get_or, take, drop, sym, ap, ◌∙◌, inl, inr, arith, length-drop, get_or-drop}
-use Rattle.std.proofs.lemmas.List.{take_more, drop_more, drop_all}
+use Rattle.std.proofs.Common.{◌≡◌, ℕ, ◌+◌, ◌-◌, ◌<◌, ◌≤◌, List, [], ◌∷◌, ◌++◌, length, get_or, take, drop, sym, ap, ◌∙◌, arith, length-drop, get_or-drop}
+use Rattle.std.proofs.lemmas.List.{take_more, drop_more}
 use Rattle.words.specs.Bytes.{class_of}
 use Rattle.words.specs.Started.{begun}
 use Rattle.words.specs.declared.text.turn.Turn.{Turn}
 use Rattle.words.specs.declared.text.turn.Turn.TheVariants.{Pass, Single, Ended}
-use Rattle.words.specs.Kinds.{Kind}
-use Rattle.words.specs.Words.{plain, single, moved, turned, Lexeme, Mode, between, within, comment, ends, goes, last, scan, mode, left}
+use Rattle.words.specs.Words.{plain, single, moved, turned, Mode, between, within, comment, ends, goes, scan, left}
 use Rattle.words.specs.declared.bytes.Class.{Class}
 use Rattle.words.specs.declared.bytes.Class.TheVariants.{Blank, Feed, Mark, Semicolon, Plain, Strange}
 use Rattle.words.specs.declared.text.State.{State}
@@ -32,15 +31,15 @@ byte :
     → scan m p (drop p t) ≡ ends m c p (get_or t p 0) ++ scan (goes m c p (get_or t p 0)) (p + 1) (drop (p + 1) t)
 byte t p m c h e = ap (scan m p) (drop_more t p 0 h) ∙ ap (λ k. ends m k p (get_or t p 0) ++ scan (goes m k p (get_or t p 0)) (p + 1) (drop (p + 1) t)) e
 
--- what a turn says of the words that are left of a text t, which the code reads as u
-abbrev Follows : List ℕ → List ℕ → ℕ → State → State → Turn → Type 0
-Follows t u p st st' Pass = left t p st ≡ left t (p + 1) st'
-Follows t u p st st' Single = left t p st ≡ single p (get_or u p 0) ∷ left t (p + 1) st'
-Follows t u p st st' (Ended s) = left t p st ≡ plain s (take (p - s) (drop s u)) ∷ left t p st'
+-- what a turn says of the words that are left
+abbrev pub Follows : List ℕ → ℕ → State → State → Turn → Type 0
+Follows t p st st' Pass = left t p st ≡ left t (p + 1) st'
+Follows t p st st' Single = left t p st ≡ single p (get_or t p 0) ∷ left t (p + 1) Between
+Follows t p st st' (Ended s) = left t p st ≡ plain s (take (p - s) (drop s t)) ∷ left t p Between
 
 follows :
     (t : List ℕ) (p : ℕ) (st : State) (c : Class) → p < length t → begun st ≤ p → class_of (get_or t p 0) ≡ c
-    → Follows t t p st (moved st c p) (turned st c)
+    → Follows t p st (moved st c p) (turned st c)
 follows t p Between Blank h k e = byte t p between Blank h e
 follows t p Between Feed h k e = byte t p between Feed h e
 follows t p Between Mark h k e = byte t p between Mark h e
@@ -61,27 +60,6 @@ follows t p Comment Plain h k e = byte t p comment Plain h e
 follows t p Comment Strange h k e = byte t p comment Strange h e
 
 pub step :
-    (t u : List ℕ) (p : ℕ) (st st' : State) (cl : Class) (n : Turn) → t ≡ u → p < length u → begun st ≤ p
-    → cl ≡ class_of (get_or u p 0) → n ≡ turned st cl → st' ≡ moved st cl p → Follows t u p st st' n
-step t u p st st' cl n e h k f g d = rw (e, g, d) (follows u p st cl h k (sym f))
-
--- at the end of the text
-at-end : (t : List ℕ) (p : ℕ) (st : State) → length t ≤ p → left t p st ≡ last (mode t p st)
-at-end t p st h = ap (scan (mode t p st) p) (drop_all p t h)
-
-pub ending :
-    (t u : List ℕ) (p s : ℕ) (st : State) → t ≡ u → length u ≤ p → p ≤ length t → st ≡ Within s
-    → left t p st ≡ plain s (take (length u - s) (drop s u)) ∷ left t p Between
-ending t u p s st e h k d =
-    let f : p ≡ length u = omega (arith, ap length e) in
-    rw (d, e) (at-end u p (Within s) h ∙ ap (λ n. plain s (take (n - s) (drop s u)) ∷ []) f ∙ ap (λ l. plain s (take (length u - s) (drop s u)) ∷ l) (sym (at-end u p Between h)))
-
-pub none_left : (t u : List ℕ) (p : ℕ) (st : State) → t ≡ u → length u ≤ p → (st ≡ Between) ⊎ (st ≡ Comment) → left t p st ≡ []
-none_left t u p st e h (inl d) = rw (d, e) (at-end u p Between h)
-none_left t u p st e h (inr d) = rw (d, e) (at-end u p Comment h)
-
--- the same word, by another kind that is equal
-pub with-kind :
-    (p : ℕ) (j k : Kind) (ls ms : List Lexeme) → ls ≡ record { place = p; kind = j } ∷ ms → k ≡ j
-    → ls ≡ record { place = p; kind = k } ∷ ms
-with-kind p j k ls ms h e = rw e h
+    (t : List ℕ) (p : ℕ) (st st' : State) (c : Class) (n : Turn) → p < length t → begun st ≤ p
+    → c ≡ class_of (get_or t p 0) → n ≡ turned st c → st' ≡ moved st c p → Follows t p st st' n
+step t p st st' c n h k f g d = rw (g, d) (follows t p st c h k (sym f))

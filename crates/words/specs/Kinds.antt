@@ -1,8 +1,9 @@
 -- The kinds of words. Assumes nothing.
-use Rattle.std.specs.Prelude.{ℕ, ◌-◌, Bool, false, cond, ◌&&◌, ◌||◌, List, [], ◌∷◌, length, ℤ, Some, None, Option, ◌==◌, nat_le, slice_index}
+use Rattle.std.specs.Prelude.{ℕ, ◌-◌, Bool, cond, ◌&&◌, ◌||◌, List, [], ◌∷◌, length, ℤ, Some, None, Option, Ok, Err, Result, ◌==◌, nat_le, slice_index}
+use Rattle.std.specs.List.{list_any}
 use Rattle.std.specs.Str.{bytes_eq}
-use Rattle.words.specs.declared.numbers.Numeral.{Numeral}
-use Rattle.words.specs.declared.numbers.Numeral.TheVariants.{NoNumber, OutOfRange, Value}
+use Rattle.words.specs.declared.numbers.NotANumber.{NotANumber}
+use Rattle.words.specs.declared.numbers.NotANumber.TheVariants.{NoForm, OutOfRange}
 use Rattle.words.specs.declared.token.Predicate.{Predicate}
 use Rattle.words.specs.declared.token.Predicate.TheVariants.{Equal, Unequal, Less, AtMost, Greater, AtLeast, SameKind}
 use Rattle.words.specs.declared.token.Token.{Token}
@@ -62,8 +63,7 @@ mark_kind b = cond (b == 40) open' (cond (b == 41) close' (cond (b == 94) hat (i
 
 -- whether a comma or a period stands in a word
 abbrev pub pointed : List ℕ → Bool
-pointed [] = false
-pointed (b ∷ bs) = b == 44 || (b == 46 || pointed bs)
+pointed w = list_any (λ b. b == 44 || b == 46) w
 
 -- three bytes or more, the first `<` and the last `>`
 abbrev pub is_variable : List ℕ → Bool
@@ -95,10 +95,10 @@ named_kind w =
     (or_predicate (predicate_of w) (cond (is_variable w) (variable w) (symbol w))))))
 
 -- the kind of a plain word, given what it is as a number
-abbrev pub number_kind : List ℕ → Numeral → Kind
-number_kind w NoNumber = cond (pointed w) (illegal w) (named_kind w)
-number_kind w OutOfRange = illegal w
-number_kind w (Value n) = number n w
+abbrev pub number_kind : List ℕ → Result ℤ NotANumber → Kind
+number_kind w (Ok n) = number n w
+number_kind w (Err OutOfRange) = illegal w
+number_kind w (Err NoForm) = cond (pointed w) (illegal w) (named_kind w)
 
 -- the kind of a plain word, by its bytes
 abbrev pub word_kind : List ℕ → Kind

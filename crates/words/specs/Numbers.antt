@@ -1,7 +1,7 @@
 -- The value of a number word: an optional sign, one digit or more, and an optional final period. Assumes nothing.
-use Rattle.std.specs.Prelude.{ℕ, ◌+◌, ◌-◌, ◌*◌, min, Bool, true, false, cond, ◌&&◌, ◌||◌, List, [], ◌∷◌, length, take, drop, pos, neg_ℤ, Some, None, Option, ◌==◌, nat_le, slice_index}
-use Rattle.words.specs.declared.numbers.Numeral.{Numeral}
-use Rattle.words.specs.declared.numbers.Numeral.TheVariants.{NoNumber, OutOfRange, Value}
+use Rattle.std.specs.Prelude.{ℕ, ◌+◌, ◌-◌, ◌*◌, min, Bool, true, false, cond, ◌&&◌, ◌||◌, List, [], ◌∷◌, length, take, drop, ℤ, pos, neg_ℤ, Some, None, Option, Ok, Err, Result, ◌==◌, nat_le, slice_index}
+use Rattle.words.specs.declared.numbers.NotANumber.{NotANumber}
+use Rattle.words.specs.declared.numbers.NotANumber.TheVariants.{NoForm, OutOfRange}
 
 -- whether a word begins with `-`
 abbrev pub negative : List ℕ → Bool
@@ -34,14 +34,14 @@ capped None = None
 capped (Some n) = Some (min n 4294967296)
 
 -- a magnitude with its sign, in 32 signed bits
-abbrev pub ranged : Bool → ℕ → Numeral
-ranged true n = cond (nat_le n 2147483648) (Value (neg_ℤ (pos n))) OutOfRange
-ranged false n = cond (nat_le n 2147483647) (Value (pos n)) OutOfRange
+abbrev pub ranged : Bool → ℕ → Result ℤ NotANumber
+ranged true n = cond (nat_le n 2147483648) (Ok (neg_ℤ (pos n))) (Err OutOfRange)
+ranged false n = cond (nat_le n 2147483647) (Ok (pos n)) (Err OutOfRange)
 
-abbrev pub valued : Bool → Option ℕ → Numeral
-valued minus None = NoNumber
+abbrev pub valued : Bool → Option ℕ → Result ℤ NotANumber
+valued minus None = Err NoForm
 valued minus (Some n) = ranged minus n
 
--- what a plain word is as a number
-abbrev pub numeral : List ℕ → Numeral
-numeral w = cond (length (undotted (unsigned w)) == 0) NoNumber (valued (negative w) (decimal 0 (undotted (unsigned w))))
+-- the value of a plain word as a number, or why it has none
+abbrev pub numeral : List ℕ → Result ℤ NotANumber
+numeral w = cond (length (undotted (unsigned w)) == 0) (Err NoForm) (valued (negative w) (decimal 0 (undotted (unsigned w))))

@@ -135,7 +135,7 @@ text_of r = r.text.now
 
 -- the words that the reader has still to give
 abbrev pub rest : Words → List Lexeme
-rest r = left (text_of r) r.at r.state
+rest r = scan between r.at (drop r.at (text_of r))
 
 -- a word of the code by its place and its kind
 abbrev pub lexeme : Word → Lexeme

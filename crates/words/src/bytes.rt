@@ -4,7 +4,7 @@ ghost use Rattle.words.specs.Bytes.{class_of};
 
 // A blank and a line feed separate words, a mark is a word by itself, a semicolon opens a comment, plain bytes make up
 // plain words, and a strange byte may stand in no word.
-#[derive(Clone, Copy)]
+#[derive(Clone, Copy, PartialEq, Eq, Debug)]
 pub(crate) enum Class {
     Blank,
     Feed,
@@ -17,12 +17,12 @@ pub(crate) enum Class {
 pub(crate) fn class_of(byte: u8) -> Class
     ensures { result ≡ class_of byte }
 {
-    match byte as char {
-        '(' | ')' | '^' => Class::Mark,
-        ';' => Class::Semicolon,
-        '\n' => Class::Feed,
-        ' ' | '\t' | '\r' => Class::Blank,
-        '!'..='~' => Class::Plain,
+    match byte {
+        b'(' | b')' | b'^' => Class::Mark,
+        b';' => Class::Semicolon,
+        b'\n' => Class::Feed,
+        b' ' | b'\t' | b'\r' => Class::Blank,
+        b'!'..=b'~' => Class::Plain,
         _ => Class::Strange,
     }
 }

@@ -1,9 +1,8 @@
 // The reader of a text's words, and its state.
 ghost use Rattle.std.specs.Prelude.{◌≤◌, length};
-ghost use Rattle.words.specs.Started.{begun};
 
 // Between words, in the plain word that began at a place, or in a comment.
-#[derive(Clone, Copy)]
+#[derive(Clone, Copy, PartialEq, Eq, Debug)]
 enum State {
     Between,
     Within(usize),
@@ -15,8 +14,7 @@ enum State {
 pub struct Words<'a> {
     text: &'a [u8],
     at: usize,
-    state: State,
-    ghost ok: { (at ≤ length text.now) × (begun state ≤ at) },
+    ghost within: { at ≤ length text.now },
 }
 
 mod methods;

@@ -3,7 +3,7 @@
 ghost use Rattle.std.specs.Prelude.{◌≡◌};
 ghost use Rattle.words.specs.Kinds.{predicate};
 
-#[derive(Clone, Copy)]
+#[derive(Clone, Copy, PartialEq, Eq, Debug)]
 pub enum Predicate {
     Equal,
     Unequal,
@@ -31,7 +31,7 @@ impl Predicate {
     }
 }
 
-#[derive(Clone, Copy)]
+#[derive(Clone, Copy, PartialEq, Eq, Debug)]
 pub enum Token<'a> {
     Open,
     Close,
@@ -48,7 +48,7 @@ pub enum Token<'a> {
 }
 
 // A word, and the place of its first byte in the text.
-#[derive(Clone, Copy)]
+#[derive(Clone, Copy, PartialEq, Eq, Debug)]
 pub struct Word<'a> {
     pub token: Token<'a>,
     pub place: usize,

@@ -4,10 +4,11 @@ ghost use Rattle.rules.specs.Attributes.{declared};
 ghost use Rattle.rules.specs.Declarations.{classes_of, answer_declare, after_declare};
 ghost use Rattle.rules.specs.Bases.{declaring_classes, entering_classes, entering_rules};
 
-use super::{Declaring, Entering, MOST_RULES};
-use crate::class::{Class, ClassRefusal};
+use super::{Declaring, Entering};
+use crate::class::Class;
 use crate::classes::Classes;
-use crate::size::Size;
+use crate::refusal::NotTaken;
+use crate::rules::Rules;
 use std::alloc::{AllocError, Global};
 
 impl Declaring {
@@ -16,7 +17,7 @@ impl Declaring {
         ensures { IfOk result (λ b. declaring_classes b ≡ []) }
     {
         let classes = Classes::new(heap)?;
-        let rules = Vec::with_capacity(heap, MOST_RULES)?;
+        let rules = Rules::new(heap)?;
         Ok(Declaring { classes, rules })
     }
 
@@ -28,7 +29,7 @@ impl Declaring {
     }
 
     // One class more.
-    pub fn declare(&mut self, class: Class) -> Result<(), ClassRefusal>
+    pub fn declare(&mut self, class: Class) -> Result<(), NotTaken>
         ensures answer { result ≡ answer_declare (declaring_classes self.old) (declared class) }
         ensures after { declaring_classes self.new ≡ after_declare (declaring_classes self.old) (declared class) }
     {
@@ -43,11 +44,6 @@ impl Declaring {
         Entering {
             classes: self.classes,
             rules: self.rules,
-            size: Size {
-                tests: 0,
-                constants: 0,
-                settings: 0,
-            },
         }
     }
 }

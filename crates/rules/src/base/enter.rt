@@ -5,8 +5,9 @@ ghost use Rattle.rules.specs.Ruled.{rule_of, rules_of};
 ghost use Rattle.rules.specs.Sizes.{size_meant, size_of_all};
 ghost use Rattle.rules.specs.Bases.{entering_classes, sealed_classes, entering_rules, sealed_rules, rule_named, answer_enter, after_enter};
 
-use super::{Entering, MOST_RULES, RuleRefusal, Sealed};
+use super::{Entering, Sealed};
 use crate::classes::Classes;
+use crate::refusal::NotTaken;
 use crate::rule::Rule;
 use crate::size::Size;
 
@@ -22,54 +23,37 @@ impl Entering {
     pub fn rules(&self) -> &[Rule]
         ensures { rules_of result.now ≡ entering_rules self.now }
     {
-        &self.rules
+        self.rules.as_slice()
     }
 
     // How many rules there are.
     pub fn count(&self) -> usize
         ensures { result ≡ length (entering_rules self.now) }
     {
-        self.rules.len()
+        self.rules().len()
     }
 
     // How many tests, constants of choices and settings the rules have.
     pub fn size(&self) -> Size
         ensures { size_meant result ≡ size_of_all (entering_rules self.now) }
     {
-        self.size
+        self.rules.size()
     }
 
     // Whether a rule has this name.
     pub fn has_rule(&self, name: u8) -> bool
         ensures { result ≡ rule_named (entering_rules self.now) name }
     {
-        for rule in self.rules.iter() {
-            if rule.name == name {
-                return true;
-            }
-        }
-        false
+        self.rules.has(name)
     }
 
     // One rule more.
-    pub fn add(&mut self, rule: Rule) -> Result<(), RuleRefusal>
+    pub fn add(&mut self, rule: Rule) -> Result<(), NotTaken>
         ensures answer { result ≡ answer_enter (entering_rules self.old) (rule_of rule) }
         ensures after { entering_rules self.new ≡ after_enter (entering_rules self.old) (rule_of rule) }
         ensures classes { entering_classes self.new ≡ entering_classes self.old }
     {
-        if self.has_rule(rule.name) {
-            return Err(RuleRefusal::Twice);
-        }
-        if self.rules.len() >= MOST_RULES {
-            return Err(RuleRefusal::TooMany);
-        }
-        let size = self.size.together(rule.size());
-        if size.is_excessive() {
-            return Err(RuleRefusal::TooMany);
-        }
-        self.rules.push_reserved(rule);
-        self.size = size;
-        Ok(())
+        self.rules.add(rule)
     }
 
     // No rule is entered from here on.

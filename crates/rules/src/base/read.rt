@@ -20,6 +20,6 @@ impl Sealed {
     pub fn rules(&self) -> &[Rule]
         ensures { rules_of result.now ≡ sealed_rules self.now }
     {
-        &self.rules
+        self.rules.as_slice()
     }
 }

@@ -4,8 +4,10 @@ ghost use Rattle.std.specs.Option.{option_map};
 ghost use Rattle.rules.specs.Attributes.{declared};
 ghost use Rattle.rules.specs.Declarations.{classes_of, find_class, answer_declare, after_declare};
 
-use super::{Classes, MOST_CLASSES};
-use crate::class::{Class, ClassRefusal};
+use super::Classes;
+use crate::class::Class;
+use crate::refusal::NotTaken;
+use rows::few::Few;
 use std::alloc::{AllocError, Global};
 
 impl Classes {
@@ -13,8 +15,9 @@ impl Classes {
     pub fn new(heap: Global) -> Result<Classes, AllocError>
         ensures { IfOk result (λ c. classes_of c ≡ []) }
     {
-        let list = Vec::with_capacity(heap, MOST_CLASSES)?;
-        Ok(Classes { list })
+        Ok(Classes {
+            list: Few::new(heap)?,
+        })
     }
 
     // How many classes there are.
@@ -28,26 +31,22 @@ impl Classes {
     pub fn find(&self, name: u8) -> Option<Class>
         ensures { option_map declared result ≡ find_class (classes_of self.now) name }
     {
-        for class in self.list.iter() {
-            if class.name() == name {
-                return Some(*class);
-            }
-        }
-        None
+        self.list
+            .as_slice()
+            .iter()
+            .find(|class| class.name() == name)
+            .copied()
     }
 
     // One class more.
-    pub fn declare(&mut self, class: Class) -> Result<(), ClassRefusal>
+    pub fn declare(&mut self, class: Class) -> Result<(), NotTaken>
         ensures answer { result ≡ answer_declare (classes_of self.old) (declared class) }
         ensures after { classes_of self.new ≡ after_declare (classes_of self.old) (declared class) }
     {
         if self.find(class.name()).is_some() {
-            return Err(ClassRefusal::Twice);
+            return Err(NotTaken::Twice);
         }
-        if self.list.len() >= MOST_CLASSES {
-            return Err(ClassRefusal::TooMany);
-        }
-        self.list.push_reserved(class);
+        self.list.push(class)?;
         Ok(())
     }
 }

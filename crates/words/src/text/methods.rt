@@ -15,10 +15,10 @@ fn single<'a>(text: &'a [u8], at: usize) -> Token<'a>
     requires { at < length text.now }
     ensures { kind_of result ≡ mark_kind (slice_index text.now at) }
 {
-    match text[at] as char {
-        '(' => Token::Open,
-        ')' => Token::Close,
-        '^' => Token::Hat,
+    match text[at] {
+        b'(' => Token::Open,
+        b')' => Token::Close,
+        b'^' => Token::Hat,
         _ => Token::Illegal(&text[at..at + 1]),
     }
 }
@@ -30,11 +30,7 @@ impl<'a> Words<'a> {
         ensures text { text_of result ≡ text.now }
         ensures law { AreWords text.now (rest result) }
     {
-        Words {
-            text,
-            at: 0,
-            state: State::Between,
-        }
+        Words { text, at: 0 }
     }
 
     // The text that the words are read from.
@@ -45,36 +41,38 @@ impl<'a> Words<'a> {
     }
 
     // The next word, and none at the end of the text.
+    // Not an Iterator's: tried, and behind a `for` over `by_ref` no proof knows which words are left.
     pub fn next(&mut self) -> Option<Word<'a>>
         ensures gave { Gave (rest self.old) result (rest self.new) }
         ensures text { text_of self.new ≡ text_of self.old }
     {
         let text = self.text;
-        while self.at < text.len() {
-            let at = self.at;
-            match self.state.turn(class_of(text[at]), at) {
-                Turn::Pass => self.at += 1,
+        let mut state = State::Between;
+        for at in self.at..text.len() {
+            match state.turn(class_of(text[at]), at) {
+                Turn::Pass => {}
                 Turn::Single => {
-                    self.at += 1;
+                    self.at = at + 1;
                     return Some(Word {
                         token: single(text, at),
                         place: at,
                     });
                 }
-                Turn::Ended(start) => return Some(Word {
-                    token: word_token(&text[start..at]),
-                    place: start,
-                }),
+                Turn::Ended(start) => {
+                    self.at = at;
+                    return Some(Word {
+                        token: word_token(&text[start..at]),
+                        place: start,
+                    });
+                }
             }
         }
-        match self.state {
-            State::Within(start) => {
-                self.state = State::Between;
-                Some(Word {
-                    token: word_token(&text[start..]),
-                    place: start,
-                })
-            }
+        self.at = text.len();
+        match state {
+            State::Within(start) => Some(Word {
+                token: word_token(&text[start..]),
+                place: start,
+            }),
             State::Between | State::Comment => None,
         }
     }

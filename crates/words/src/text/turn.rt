@@ -6,7 +6,7 @@ use super::State;
 use crate::bytes::Class;
 
 // What a byte does: it is passed over, it is a word by itself, or it ends the plain word that began at a place.
-#[derive(Clone, Copy)]
+#[derive(Clone, Copy, PartialEq, Eq, Debug)]
 pub(super) enum Turn {
     Pass,
     Single,
@@ -19,10 +19,9 @@ impl State {
         ensures told { result ≡ turned self.old class }
         ensures after { self.new ≡ moved self.old class at }
     {
-        match (&*self, class) {
+        match (*self, class) {
             (State::Within(_), Class::Plain) => Turn::Pass,
             (State::Within(start), _) => {
-                let start = *start;
                 *self = State::Between;
                 Turn::Ended(start)
             }

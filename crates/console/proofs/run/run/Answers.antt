@@ -1,5 +1,4 @@
-use Rattle.std.proofs.Common.{◌≡◌, [], length, Ok, vec_items, ap, ◌∙◌, arith}
-use Rattle.std.proofs.lemmas.Result.{err_from_is_err_and}
+use Rattle.std.proofs.Common.{◌≡◌, [], length, Ok, ap, ◌∙◌, arith}
 use Rattle.words.specs.Words.{rest, text_of}
 use Rattle.values.specs.Naming.{held}
 use Rattle.facts.specs.Model.{model}
@@ -8,11 +7,6 @@ use Rattle.rules.specs.Bases.{declaring_classes, sealed_classes}
 use Rattle.console.specs.Sessions.{reached, left}
 use Rattle.console.proofs.Going.{from_start, commands-whole}
 use Rattle.console.proofs.run.run.Goals as goal
-
-pub returns-in_err-command_all : goal.returns-in_err-command_all
-returns-in_err-command_all c =
-    let p = err_from_is_err_and c.from_residual-in_err-command_all.result c.from_residual-in_err-command_all.ensures.1 in
-    rw p.1 tt
 
 pub returns : goal.returns
 returns c =
@@ -29,7 +23,7 @@ returns c =
       from_start text (length (text_of w)) (declaring_classes c.in_ok-base.base) (held c.in_ok-names.names) (rest w) (Ok tt) (reached (declaring_classes d.base) (held d.names) (rest d.words)) end c.in_ok-base.ensures c.in_ok-names.ensures c.new-words.ensures.words c.in_default.ensures.all,
       (
         q,
-        commands-whole (length (text_of d.words)) (length text) (sealed_classes c.seal-base.result) (declaring_classes d.base) (held d.names) (rest d.words) (plain_model n.result) (model [] 0 256) q (vec_items c.new-out.result) (vec_items c.command_all.new.out)
-            (ap length c.declare_all.ensures.text ∙ end) c.new-out.ensures.items (c.seal-base.ensures.classes ∙ c.enter.ensures.classes) same c.in_ok-command_all.ensures,
+        rw c.into_bytes-2.ensures (commands-whole (length (text_of d.words)) (length text) (sealed_classes c.seal-base.result) (declaring_classes d.base) (held d.names) (rest d.words) (plain_model n.result) (model [] 0 256) q c.new-page.result c.command_all.new.page
+            (ap length c.declare_all.ensures.text ∙ end) c.new-page.ensures (c.seal-base.ensures.classes ∙ c.enter.ensures.classes) same c.in_ok-command_all.ensures),
       ),
     )

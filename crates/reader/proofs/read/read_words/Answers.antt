@@ -1,30 +1,23 @@
-use Rattle.std.proofs.Common.{◌∷◌, refl, ◌∙◌}
+use Rattle.std.proofs.Common.{◌≡◌, Ok, subst, ◌∙◌, rules}
 use Rattle.words.specs.Words.{lexeme, rest}
 use Rattle.values.specs.Naming.{held}
 use Rattle.rules.specs.Declarations.{classes_of}
-use Rattle.reader.specs.Meaning.{state_of, entry_of}
-use Rattle.reader.proofs.Answering.{went_on, ended_with, failed_at, grows_on}
+use Rattle.languages.specs.Senses.{sense}
+use Rattle.languages.proofs.Steps.{went_on, grows_on}
+use Rattle.reader.specs.declared.state.Step.TheVariants.{Onward}
+use Rattle.reader.specs.Machine.{turned}
+use Rattle.reader.specs.Meaning.{state_of, Steps}
 use Rattle.reader.proofs.read.read_words.Goals as goal
 
 pub loop-word-preserved : goal.loop-word-preserved
-loop-word-preserved c = (
-  went_on c.args.phase (classes_of c.args.classes.now) (held c.loop-word.names) (held c.turn.new.names) (state_of c.loop-word.state) (state_of c.in-Onward.next) (lexeme c.in-Some.word) _ (rest c.loop-word.words) _ c.in-Some.ensures.gave c.in-Onward.ensures.step c.loop-word.invariant.0,
-  grows_on (held c.args.names.now) (held c.loop-word.names) (held c.turn.new.names) c.loop-word.invariant.1 c.in-Onward.ensures.names,
-  c.in-Some.ensures.text ∙ c.loop-word.invariant.2,
-)
-
-pub returns-in-Whole : goal.returns-in-Whole
-returns-in-Whole c =
+loop-word-preserved c =
+    let before = held c.loop-word.names in
+    let machine = turned (classes_of c.args.classes.now) in
+    let state = state_of before c.loop-word.state in
+    let e : c.turn-turned.result ≡ Ok (Onward c.in-Onward.next) = search rules in
+    let step = subst (λ r. Steps before r (held c.turn-turned.new.names) (machine state (sense (lexeme c.in-Some.word).kind))) e c.turn-turned.ensures in
     record {
-      ran = ended_with c.args.phase (classes_of c.args.classes.now) (held c.loop-word.names) (held c.turn.new.names) (state_of c.loop-word.state) (entry_of c.in-Whole.form) (lexeme c.in-Some.word) _ (rest c.loop-word.words) _ c.in-Some.ensures.gave c.in-Whole.ensures.step c.loop-word.invariant.0;
-      names = grows_on (held c.args.names.now) (held c.loop-word.names) (held c.turn.new.names) c.loop-word.invariant.1 c.in-Whole.ensures.names;
-      text = c.in-Some.ensures.text ∙ c.loop-word.invariant.2;
-    }
-
-pub returns-in-Fails : goal.returns-in-Fails
-returns-in-Fails c =
-    record {
-      ran = (lexeme c.in-Some.word ∷ rest c.next.new.self, failed_at c.args.phase (classes_of c.args.classes.now) (held c.loop-word.names) (state_of c.loop-word.state) c.in-Fails.cause (lexeme c.in-Some.word) _ (rest c.loop-word.words) _ c.in-Some.ensures.gave c.in-Fails.ensures.step c.loop-word.invariant.0, refl);
-      names = grows_on (held c.args.names.now) (held c.loop-word.names) (held c.turn.new.names) c.loop-word.invariant.1 c.in-Fails.ensures.names;
-      text = c.in-Some.ensures.text ∙ c.loop-word.invariant.2;
+      runs = went_on machine state (lexeme c.in-Some.word) _ (rest c.loop-word.words) _ c.in-Some.ensures.gave c.loop-word.invariant.runs (state_of (held c.turn-turned.new.names) c.in-Onward.next) step.0;
+      grows = grows_on (held c.args.names.now) before (held c.turn-turned.new.names) c.loop-word.invariant.grows step.1;
+      text = c.in-Some.ensures.text ∙ c.loop-word.invariant.text;
     }

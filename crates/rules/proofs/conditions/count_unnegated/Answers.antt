@@ -1,19 +1,11 @@
-use Rattle.std.proofs.Common.{length, ap, arith}
-use Rattle.rules.proofs.Unnegated.{past_negated, past_unnegated, past_all}
+use Rattle.std.proofs.Common.{not, sym, ◌∙◌, rules, tests}
+use Rattle.std.proofs.lemmas.Iterator.{YieldsList-from_slice}
+use Rattle.std.proofs.lemmas.Iterator.Consumers.{YieldsList-from_filter, count_from_yields_List}
+use Rattle.rules.proofs.Unnegated.{unnegated-length}
 use Rattle.rules.proofs.conditions.count_unnegated.Goals as goal
-use Rattle.rules.proofs.conditions.count_unnegated.Goals.{then-not-condition, else-not-condition}
-
-pub loop-condition-preserved : goal.loop-condition-preserved
-loop-condition-preserved c = elim c.if-not-condition.branch [
-  | then-not-condition w ↦
-      let e = ap length (past_unnegated c.args.conditions.now c.loop-condition.condition-index c.condition-item.result c.loop-condition-test.true c.condition-item.is w.if-not-condition.true) in
-      (omega (arith, w.n-is), omega (arith, w.n-is))
-  | else-not-condition w ↦
-      let e = ap length (past_negated c.args.conditions.now c.loop-condition.condition-index c.condition-item.result c.loop-condition-test.true c.condition-item.is w.if-not-condition.false) in
-      (omega (arith, w.n-is), omega (arith, w.n-is))
-]
 
 pub returns : goal.returns
 returns c =
-    let e = ap length (past_all c.args.conditions.now c.loop-condition.condition-index c.loop-condition-test.false) in
-    omega arith
+    let xs = c.args.conditions.now in
+    count_from_yields_List _ c.count.result c.count.ensures.ran (YieldsList-from_filter _ (λ x. not x.negated) (YieldsList-from_slice xs cc) c.filter.ensures.closure (λ x r q k. search (rules, tests)))
+    ∙ sym (unnegated-length xs)

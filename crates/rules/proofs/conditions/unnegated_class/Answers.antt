@@ -1,43 +1,23 @@
-use Rattle.std.proofs.Common.{◌+◌, drop, sym, ap, ◌∙◌, arith}
-use Rattle.rules.specs.Rules.{condition_of, conditions_of}
-use Rattle.rules.specs.Fitness.{unnegated}
-use Rattle.rules.proofs.Unnegated.{past_negated, past_unnegated, past_all, class-named, passed_one, class-unnamed}
+use Rattle.std.proofs.Common.{◌≡◌, ◌≤◌, ◌-◌, not, Some, None, Option, Bor, refl, sym, ◌∙◌, ap, subst, rules, tests}
+use Rattle.std.specs.List.{slice_get}
+use Rattle.std.specs.Option.{option_map}
+use Rattle.std.proofs.lemmas.Iterator.{YieldsList-from_slice}
+use Rattle.std.proofs.lemmas.Iterator.Consumers.{YieldsList-from_filter, nth_from_yields_List}
+use Rattle.rules.specs.declared.condition.Condition.{Condition}
+use Rattle.rules.proofs.Unnegated.{passing, Named, named}
 use Rattle.rules.proofs.conditions.unnegated_class.Goals as goal
-use Rattle.rules.proofs.conditions.unnegated_class.Goals.{then-not-condition+else-n-number, else-not-condition}
 
-pub returns-then-n-number : goal.returns-then-n-number
-returns-then-n-number c =
-    let xs = c.args.conditions.now in
-    let i = c.loop-condition.condition-index in
-    let x = c.condition-item.result in
-    class-named (conditions_of xs) c.loop-condition.n (condition_of x) (unnegated (conditions_of (drop (i + 1) xs)))
-    (sym (past_unnegated xs i x c.loop-condition-test.true c.condition-item.is c.if-not-condition.true) ∙ c.loop-condition.invariant.0)
-    c.args.number c.if-n-number.true
-
-pub loop-condition-preserved : goal.loop-condition-preserved
-loop-condition-preserved c =
-    let xs = c.args.conditions.now in
-    let i = c.loop-condition.condition-index in
-    let x = c.condition-item.result in
-    elim c.if-not-condition.branch [
-      | then-not-condition+else-n-number w ↦ (
-        passed_one (conditions_of xs) c.loop-condition.n (condition_of x) (unnegated (conditions_of (drop (i + 1) xs)))
-            (sym (past_unnegated xs i x c.loop-condition-test.true c.condition-item.is w.if-not-condition.true) ∙ c.loop-condition.invariant.0)
-            ∙ ap (λ n. drop n (unnegated (conditions_of xs))) (sym w.n-is),
-        omega (arith, w.n-is),
-        λ h. omega (arith, w.n-is, w.if-n-number.false, c.loop-condition.invariant.2 h),
-      )
-      | else-not-condition w ↦ (
-        sym (past_negated xs i x c.loop-condition-test.true c.condition-item.is w.if-not-condition.false)
-            ∙ c.loop-condition.invariant.0
-            ∙ ap (λ n. drop n (unnegated (conditions_of xs))) (sym w.n-is),
-        omega (arith, w.n-is),
-        λ h. omega (arith, w.n-is, c.loop-condition.invariant.2 h),
-      )
-    ]
+classes_of_lent : (o : Option (Bor Condition)) → option_map (λ x. x.now.class) o ≡ option_map (λ x. x.class) (option_map (λ x. x.now) o)
+classes_of_lent None = refl
+classes_of_lent (Some x) = refl
 
 pub returns : goal.returns
 returns c =
-    class-unnamed (conditions_of c.args.conditions.now) c.loop-condition.n c.args.number
-    (sym (past_all c.args.conditions.now c.loop-condition.condition-index c.loop-condition-test.false) ∙ c.loop-condition.invariant.0)
-    c.loop-condition.invariant.2
+    let xs = c.args.conditions.now in
+    let first : 1 ≤ c.args.number = search rules in
+    let place : c.in_ok-checked_sub.field-0 ≡ c.args.number - 1 = search rules in
+    let found = nth_from_yields_List c.nth.result _ c.in_ok-checked_sub.field-0 c.nth.ensures.ran (YieldsList-from_filter _ (λ x. not x.negated) (YieldsList-from_slice xs cc) c.filter.ensures.closure (λ x r q k. search (rules, tests))) in
+    let e : c.map.result ≡ option_map (λ x. x.now.class) c.nth.result = search rules in
+    subst (Named xs c.args.number)
+    (sym (e ∙ classes_of_lent c.nth.result ∙ ap (option_map (λ x. x.class)) found ∙ ap (λ k. option_map (λ x. x.class) (slice_get (passing xs) k)) place))
+    (named xs c.args.number first)

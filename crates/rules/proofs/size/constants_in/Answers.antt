@@ -1,34 +1,29 @@
-use Rattle.std.proofs.Common.{refl, ap, ◌∙◌, arith}
-use Rattle.rules.specs.Rules.{field_tests_of, condition_of, conditions_of}
-use Rattle.rules.specs.Sizes.{tests_constants, constants_in}
-use Rattle.rules.proofs.Sums.{sum_more, sum_part, sum_all}
+use Rattle.std.proofs.Common.{◌^◌, vec_items, sym, ◌∙◌, rules, arith}
+use Rattle.std.specs.List.{flat_map}
+use Rattle.std.proofs.lemmas.Iterator.{YieldsList-from_slice, YieldsList-from_map}
+use Rattle.std.proofs.lemmas.Iterator.Adapters.{YieldsList-from_flat_map}
+use Rattle.std.proofs.lemmas.Iterator.Consumers.{YieldsList-at, fits_by_from_yields_list, sum_by_from_yields_List}
+use Rattle.rules.specs.Rules.{test_of}
+use Rattle.rules.specs.Sizes.{test_constants}
+use Rattle.rules.proofs.Sizes.{constants-sum}
 use Rattle.rules.proofs.size.constants_in.Goals as goal
 
-pub tests_constants-sum-requires : goal.tests_constants-sum-requires
-tests_constants-sum-requires c =
-    omega (
-      arith,
-      ap (λ l. tests_constants (field_tests_of l)) c.deref.ensures.value,
-      sum_part (λ l. constants_in (conditions_of l)) (λ x. tests_constants (condition_of x).tests) (λ x l. refl) c.args.conditions.now c.loop-condition.condition-index c.loop-condition.sum
-          c.condition-item.result (omega arith) c.condition-item.is c.loop-condition.invariant,
-    )
-
-pub overflow_add-sum : goal.overflow_add-sum
-overflow_add-sum c =
-    omega (
-      arith,
-      c.tests_constants-sum.ensures ∙ ap (λ l. tests_constants (field_tests_of l)) c.deref.ensures.value,
-      sum_part (λ l. constants_in (conditions_of l)) (λ x. tests_constants (condition_of x).tests) (λ x l. refl) c.args.conditions.now c.loop-condition.condition-index c.loop-condition.sum
-          c.condition-item.result (omega arith) c.condition-item.is c.loop-condition.invariant,
-    )
-
-pub loop-condition-preserved : goal.loop-condition-preserved
-loop-condition-preserved c =
-    sum_more (λ l. constants_in (conditions_of l)) (λ x. tests_constants (condition_of x).tests) (λ x l. refl) c.args.conditions.now c.loop-condition.condition-index c.loop-condition.sum
-    c.condition-item.result c.tests_constants-sum.result (omega arith) c.condition-item.is
-    (c.tests_constants-sum.ensures ∙ ap (λ l. tests_constants (field_tests_of l)) c.deref.ensures.value) c.loop-condition.invariant
+pub sum-requires-clause-fits : goal.sum-requires-clause-fits
+sum-requires-clause-fits c =
+    fits_by_from_yields_list (λ t. test_constants (test_of t.test)) (flat_map (λ x. vec_items x.tests) c.args.conditions.now) c.map.result (2 ^ 64)
+    (YieldsList-from_map _ (λ t. test_constants (test_of t.test))
+    (YieldsList-at c.map.ensures.source
+    (YieldsList-from_flat_map _ _ _ (λ y. y.now) (λ x. vec_items x.tests) _ (λ x u q k. (search rules, λ j b. YieldsList-from_slice (vec_items x.now.tests) (search rules)))
+    (YieldsList-from_slice c.args.conditions.now cc) (cc) (cc) (cc) (cc)))
+    c.map.ensures.closure (λ x r q k. search rules))
+    (omega (arith, c.requires, constants-sum c.args.conditions.now))
 
 pub returns : goal.returns
 returns c =
-    sum_all (λ l. constants_in (conditions_of l)) (λ x. tests_constants (condition_of x).tests) (λ x l. refl) c.args.conditions.now c.loop-condition.condition-index c.loop-condition.sum
-    (omega arith) refl c.loop-condition.invariant
+    sum_by_from_yields_List (λ t. test_constants (test_of t.test)) (flat_map (λ x. vec_items x.tests) c.args.conditions.now) c.map.result c.sum.result c.sum.ensures.ran
+    (YieldsList-from_map _ (λ t. test_constants (test_of t.test))
+    (YieldsList-at c.map.ensures.source
+    (YieldsList-from_flat_map _ _ _ (λ y. y.now) (λ x. vec_items x.tests) _ (λ x u q k. (search rules, λ j b. YieldsList-from_slice (vec_items x.now.tests) (search rules)))
+    (YieldsList-from_slice c.args.conditions.now cc) (cc) (cc) (cc) (cc)))
+    c.map.ensures.closure (λ x r q k. search rules))
+    ∙ sym (constants-sum c.args.conditions.now)

@@ -1,6 +1,7 @@
-use Rattle.std.proofs.Common.{◌≡◌, ℕ, min, drop}
-use Rattle.words.specs.Numbers.{decimal}
+use Rattle.std.proofs.Common.{◌≡◌, ◌≤◌, drop}
+use Rattle.words.specs.Numbers.{decimal, capped}
 use Rattle.words.proofs.numbers.magnitude.Given as goal
 
-abbrev pub invariant-loop-d : goal.invariant-loop-d
-invariant-loop-d l = (n : ℕ) × (l.value ≡ min n 4294967296) × (decimal n (drop l.d-index l.digits) ≡ decimal 0 l.digits)
+-- the digits that are left decide
+abbrev pub invariant-loop-digit : goal.invariant-loop-digit
+invariant-loop-digit l = record { within : l.value ≤ 4294967296; left : capped (decimal l.value (drop l.digit-index l.digits)) ≡ capped (decimal 0 l.digits) }

@@ -1,37 +1,19 @@
-use Rattle.std.proofs.Common.{sym, ◌∙◌}
-use Rattle.words.proofs.Scans.{step, ending, none_left, with-kind}
+use Rattle.std.proofs.Common.{rules, sym, ◌∙◌}
+use Rattle.words.proofs.Scans.{step}
 use Rattle.words.proofs.text.Words.next.Goals as goal
-use Rattle.words.specs.declared.text.turn.Turn.TheVariants.{Pass, Single, Ended}
+use Rattle.words.specs.declared.text.turn.Turn.TheVariants.{Pass, Ended}
 
-pub loop-self-preserved : goal.loop-self-preserved
-loop-self-preserved c =
+pub loop-at-preserved : goal.loop-at-preserved
+loop-at-preserved c =
     let told = c.in-Pass.ensures in
-    let same = c.loop-self.invariant.1 in
-    let more = step _ _ c.loop-self.self.at c.loop-self.self.state _ _ Pass same c.loop-self-test.true c.loop-self.self.ok.1 c.class_of.ensures told.told told.after in
-    (sym more ∙ c.loop-self.invariant.0, same)
+    record {
+      left = sym (step _ _ c.loop-at.state _ _ Pass c.loop-at-test.true c.loop-at.invariant.begun c.class_of.ensures told.told told.after) ∙ c.loop-at.invariant.left;
+      begun = search rules;
+      text = c.loop-at.invariant.text;
+    }
 
-pub returns-in-Single : goal.returns-in-Single
-returns-in-Single c =
-    let told = c.in-Single.ensures in
-    let same = c.loop-self.invariant.1 in
-    let more = step _ _ c.loop-self.self.at c.loop-self.self.state _ _ Single same c.loop-self-test.true c.loop-self.self.ok.1 c.class_of.ensures told.told told.after in
-    record { gave = with-kind _ _ _ _ _ (sym c.loop-self.invariant.0 ∙ more) c.single.ensures; text = same }
-
-pub returns-in-Ended : goal.returns-in-Ended
-returns-in-Ended c =
+pub returns-in-Ended-clause-gave : goal.returns-in-Ended-clause-gave
+returns-in-Ended-clause-gave c =
     let told = c.in-Ended.ensures in
-    let same = c.loop-self.invariant.1 in
-    let more = step _ _ c.loop-self.self.at c.loop-self.self.state _ _ (Ended c.in-Ended.start) same c.loop-self-test.true c.loop-self.self.ok.1 c.class_of.ensures told.told told.after in
-    record { gave = with-kind _ _ _ _ _ (sym c.loop-self.invariant.0 ∙ more) c.word_token.ensures.kind; text = same }
-
-pub returns-in-Within : goal.returns-in-Within
-returns-in-Within c =
-    let same = c.loop-self.invariant.1 in
-    let more = ending _ _ c.loop-self.self.at c.in-Within.start c.loop-self.self.state same c.loop-self-test.false c.loop-self.self.ok.0 c.in-Within.is in
-    record { gave = with-kind _ _ _ _ _ (sym c.loop-self.invariant.0 ∙ more) c.word_token-in-Within.ensures.kind; text = same }
-
-pub returns-in-Between : goal.returns-in-Between
-returns-in-Between c =
-    let same = c.loop-self.invariant.1 in
-    let none = none_left _ _ c.loop-self.self.at c.loop-self.self.state same c.loop-self-test.false c.in-Between.is in
-    record { gave = (sym c.loop-self.invariant.0 ∙ none, none); text = same }
+    let more = step _ _ c.loop-at.state _ _ (Ended c.in-Ended.start) c.loop-at-test.true c.loop-at.invariant.begun c.class_of.ensures told.told told.after in
+    rw (c.word_token.ensures.kind, c.loop-at.invariant.text) (sym c.loop-at.invariant.left ∙ more)

@@ -1,9 +1,12 @@
-use Rattle.std.proofs.Common.{◌≡◌, ◌-◌, length}
-use Rattle.words.specs.Words.{rest, text_of}
+use Rattle.std.proofs.Common.{◌≡◌, ◌≤◌}
+use Rattle.words.specs.Started.{begun}
+use Rattle.words.specs.Words.{rest, text_of, left}
 use Rattle.words.proofs.text.Words.next.Given as goal
 
-abbrev pub invariant-loop-self : goal.invariant-loop-self
-invariant-loop-self l = (rest l.self ≡ rest l.initial.self) × (text_of l.self ≡ text_of l.initial.self)
-
-abbrev pub decreases-loop-self : goal.decreases-loop-self
-decreases-loop-self l = length l.text - l.self.at
+-- the bytes that are left decide
+abbrev pub invariant-loop-at : goal.invariant-loop-at
+invariant-loop-at l = record {
+  left : left l.text l.at l.state ≡ rest l.initial.self;
+  begun : begun l.state ≤ l.at;
+  text : text_of l.self ≡ text_of l.initial.self;
+}

@@ -1,0 +1,15 @@
+use Rattle.std.proofs.Common.{rules, ◌≡◌, codes, arith, sym, subst}
+use Rattle.reader.specs.Machine.{head_word}
+use Rattle.reader.specs.Meaning.{Steps}
+use Rattle.languages.proofs.Literals.{is-literal}
+use Rattle.reader.proofs.turns.head_word.Goals as goal
+
+pub returns-in-Declaring-literalize : goal.returns-in-Declaring-literalize
+returns-in-Declaring-literalize c =
+    let e = is-literal c.args.word.now (codes "literalize") (omega arith) (search rules) in
+    rw e (search rules)
+
+pub returns-in-Commanding-remove : goal.returns-in-Commanding-remove
+returns-in-Commanding-remove c =
+    let e = is-literal c.args.word.now (codes "remove") (omega arith) (search rules) in
+    rw e (search rules)
