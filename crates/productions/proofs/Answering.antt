@@ -2,10 +2,9 @@
 use Rattle.std.proofs.Common.{◌≡◌, ℕ, ◌≤◌, true, false, List, Ok, Err, sym, ap, ◌∙◌, subst}
 use Rattle.words.specs.Words.{Lexeme}
 use Rattle.rules.specs.Attributes.{Declared}
-use Rattle.rules.specs.Bases.{entering_rules, after_enter}
+use Rattle.rules.specs.Bases.{after_enter}
 use Rattle.rules.specs.Rules.{Rule}
 use Rattle.rules.specs.Sizes.{size_of_all, excessive}
-use Rattle.rules.specs.declared.base.Entering.{Entering}
 use Rattle.languages.specs.Languages.{Takes, longest}
 use Rattle.languages.specs.Machines.{run}
 use Rattle.productions.specs.declared.draft.Draft.{Draft}
@@ -22,10 +21,6 @@ pub not_drafted : (cs : List Declared) (rs : List Rule) (ns ms os : List (List �
 not_drafted cs rs ns ms os ls after left end d (Refused x) r n a =
     (n, a, none cs rs ns ls r.0 x.cause r.1, broken cs rs ns ls r.0 end x.cause x.place r.1 r.2)
 not_drafted cs rs ns ms os ls after left end d NoMemory r n a = (n, a)
-
--- the rules of a base keep its limits
-pub within-limits : (b : Entering) → excessive (size_of_all (entering_rules b)) ≡ false
-within-limits b = b.rules.roomy
 
 -- a production that was read is fit, and there is room for it
 pub taken-fit : (cs : List Declared) (rs : List Rule) (ns ms : List (List ℕ)) (ls after : List Lexeme) (r : Rule) → excessive (size_of_all rs) ≡ false → Takes (production_script cs rs ns) ls (r, ms) after → Fit rs r

@@ -3,7 +3,6 @@ pub mod Carrying
 pub mod Faults
 pub mod Bound
 pub mod Fit
-pub mod Drafting
 pub mod Answering
 pub mod Saying
 pub mod Growing

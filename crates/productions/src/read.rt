@@ -84,11 +84,12 @@ pub fn read_production(
         actions,
         ..
     } = read_draft(words, names, base, heap)?;
-    let _ = base.add(Rule {
+    base.add(Rule {
         name,
         conditions,
         actions,
-    });
+    })
+    .unwrap();
     Ok(true)
 }
 
