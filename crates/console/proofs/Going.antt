@@ -5,7 +5,7 @@ use Rattle.words.specs.Words.{Lexeme, words_of}
 use Rattle.facts.specs.Model.{Model}
 use Rattle.rules.specs.Attributes.{Declared}
 use Rattle.reader.specs.declared.form.Command.{Command}
-use Rattle.reader.specs.declared.refusal.Refusal.{Refusal}
+use Rattle.languages.specs.declared.refusal.Refusal.{Refusal}
 use Rattle.reader.specs.declared.form.Phase.TheVariants.{Declaring, Commanding}
 use Rattle.reader.specs.Forms.{declares, commands}
 use Rattle.reader.specs.Meaning.{act_of}
@@ -88,10 +88,10 @@ module _ (e f : ℕ) (same : e ≡ f) where
 
 -- each form leaves fewer words
 pub fewer_left : (end : ℕ) (p q : Reached) → Reading end p (Ok true) q → length q.left < length p.left
-fewer_left end p q r = takes_fewer Declaring p.classes p.names q.names p.left q.left (declares r.2.0) r.2.1
+fewer_left end p q r = takes_fewer Declaring p.classes p.names p.left (declares r.2.0, q.names) q.left r.2.1
 
 pub fewer_commands : (end : ℕ) (classes : List Declared) (ns ms : List (List ℕ)) (ls after : List Lexeme) (c : Command) → ReadsCommand end classes ns ls (Ok (Some c)) ms after → length after < length ls
-fewer_commands end classes ns ms ls after c r = takes_fewer Commanding classes ns ms ls after (commands (act_of c)) r.1
+fewer_commands end classes ns ms ls after c r = takes_fewer Commanding classes ns ls (commands (act_of c), ms) after r.1
 
 -- ---- the whole session
 

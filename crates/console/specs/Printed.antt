@@ -8,8 +8,8 @@ use Rattle.rules.specs.Attributes.{Declared}
 use Rattle.rules.specs.Declarations.{find_class}
 use Rattle.facts.specs.declared.refusal.MemoryRefusal.{MemoryRefusal}
 use Rattle.facts.specs.Model.{refusal_number}
-use Rattle.reader.specs.declared.refusal.Refusal.{Refusal}
-use Rattle.reader.specs.Refusals.{cause_number}
+use Rattle.languages.specs.declared.refusal.Refusal.{Refusal}
+use Rattle.languages.specs.Refusals.{cause_number}
 
 -- what is printed in the end is what was printed before, and then bytes of which P holds
 abbrev pub Appends : List ℕ → List ℕ → (List ℕ → Type 0) → Type 0

@@ -4,7 +4,7 @@ use Rattle.words.specs.Words.{Lexeme, words_of}
 use Rattle.facts.specs.Model.{Model, model}
 use Rattle.rules.specs.Attributes.{Declared}
 use Rattle.reader.specs.declared.form.Command.{Command}
-use Rattle.reader.specs.declared.refusal.Refusal.{Refusal}
+use Rattle.languages.specs.declared.refusal.Refusal.{Refusal}
 use Rattle.reader.specs.Reading.{ReadsDeclaration, ReadsCommand}
 use Rattle.console.specs.Printed.{reader_refused}
 use Rattle.console.specs.Performed.{after_command, Prints}

@@ -9,7 +9,7 @@ ghost use Rattle.console.specs.Printed.{name_of, value_text, field_text, fields_
 use crate::numbers::{write_integer, write_natural};
 use facts::refusal::MemoryRefusal;
 use facts::traits::Facts;
-use reader::refusal::Refusal;
+use languages::refusal::Refusal;
 use rules::class::Class;
 use rules::classes::Classes;
 use std::alloc::{AllocError, Global};

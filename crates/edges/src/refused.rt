@@ -1,6 +1,6 @@
 // A refused form leaves the names, the classes and the words as they were.
 use reader::read::{read_command, read_declaration};
-use reader::refusal::Refusal;
+use languages::refusal::Refusal;
 use rules::base::Declaring;
 use std::alloc::Global;
 use std::process::Abort;

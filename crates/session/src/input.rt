@@ -1,6 +1,6 @@
 // Reading the text of a session.
 use crate::trouble::Trouble;
-use reader::read::LONGEST_TEXT;
+use languages::text::LONGEST_TEXT;
 use std::alloc::Global;
 use std::io::Read;
 use std::{env, fs, io};
