@@ -15,7 +15,7 @@ abbrev pub Legal : Kind → Type 0
 Legal k = (w : List ℕ) → k ≡ illegal w → ⊥
 
 pub legal_symbol : (w : List ℕ) → Legal (symbol w)
-legal_symbol w v e = let z : ◌≡◌ {A = ℕ} 0 1 = cc in omega arith
+legal_symbol w v e = cc
 
 -- words follow the judged ones up to the first that breaks a rule
 abbrev pub halts : {E : Type 0} → Option Fault → List Lexeme → Outcome E → Outcome E
@@ -49,16 +49,16 @@ spells_for (j ∷ js) h = (h.0, spells_for js h.1)
 -- a step that is refused only where the word breaks a rule is never one for a word that cannot continue
 unless-expected : {S E : Type 0} (f : Option Fault) (x : Step S E) → (x ≡ fails UnexpectedWord → ⊥) → unless f x ≡ fails UnexpectedWord → ⊥
 unless-expected None x n e = n e
-unless-expected (Some wrong_name) x n e = let z : ◌≡◌ {A = ℕ} 0 1 = cc in omega arith
-unless-expected (Some wrong_variable) x n e = let z : ◌≡◌ {A = ℕ} 0 1 = cc in omega arith
-unless-expected (Some no_such_condition) x n e = let z : ◌≡◌ {A = ℕ} 0 1 = cc in omega arith
-unless-expected (Some over_limit) x n e = let z : ◌≡◌ {A = ℕ} 0 1 = cc in omega arith
+unless-expected (Some wrong_name) x n e = cc
+unless-expected (Some wrong_variable) x n e = cc
+unless-expected (Some no_such_condition) x n e = cc
+unless-expected (Some over_limit) x n e = cc
 
 onward-expected : {S E : Type 0} (t : S) → ◌≡◌ {A = Step S E} (onward t) (fails UnexpectedWord) → ⊥
-onward-expected t e = let z : ◌≡◌ {A = ℕ} 0 1 = cc in omega arith
+onward-expected t e = cc
 
 whole-expected : {S E : Type 0} (x : E) → ◌≡◌ {A = Step S E} (whole x) (fails UnexpectedWord) → ⊥
-whole-expected x e = let z : ◌≡◌ {A = ℕ} 0 1 = cc in omega arith
+whole-expected x e = cc
 
 -- ---- a machine, and for each state what may be left of a form there
 
@@ -148,7 +148,7 @@ module _ {S E : Type 0} (turned : S → Kind → Step S E) (R : S → Type 0) (s
         ∙ ap (λ x. taken x after) (sym t.asked)
 
     taken-stopped : (e : E) (after back : List Lexeme) (c : Cause) → taken e after ≡ stopped c back → ⊥
-    taken-stopped e after back c h = let z : ◌≡◌ {A = ℕ} 0 1 = cc in omega arith
+    taken-stopped e after back c h = cc
 
     -- a reading that stopped took no form
     pub stopped_none : (s : S) (ls back : List Lexeme) (c : Cause) → run turned s ls ≡ stopped c back → TakesNone (script s) ls
@@ -193,13 +193,12 @@ module _ {S E : Type 0} (turned : S → Kind → Step S E) (R : S → Type 0) (s
 
             clear : (f : Option Fault) (x : Step S E) → unless f x ≡ onward t → (f ≡ None) × (x ≡ onward t)
             clear None x g = (refl, g)
-            clear (Some f) x g = let z : ◌≡◌ {A = ℕ} 0 1 = cc in absurd (omega arith)
+            clear (Some f) x g = absurd cc
 
             way : Way s v.0 v.1 → (r : R t) × (f : Option Fault) × (f ≡ None) × (script s q ≡ then' (judge (sense l.kind) f) (script t r))
             way (inl w) =
                 let g : whole w.0 ≡ onward t = (clear v.0.fault (whole w.0) (sym w.2 ∙ here)).1 in
-                let z : ◌≡◌ {A = ℕ} 0 1 = cc in
-                absurd (omega arith)
+                absurd cc
             way (inr w) =
                 let c = clear v.0.fault (onward w.0) (sym w.3 ∙ here) in
                 let g : onward w.0 ≡ onward t = c.1 in
@@ -387,7 +386,7 @@ module _ {S E : Type 0} (turned : S → Kind → Step S E) (R : S → Type 0) (s
         where
           joined : (js : List Judged) (is : List Judged) (fs us after : List Lexeme) → Spells js fs [] → Spells is us after → Spells (js ++ is) (fs ++ us) after
           joined [] is [] us after g i = i
-          joined [] is (f ∷ fs) us after g i = let z : ◌≡◌ {A = ℕ} 0 1 = cc in absurd (omega arith)
+          joined [] is (f ∷ fs) us after g i = absurd cc
           joined (j ∷ js) is [] us after g i = absurd g
           joined (j ∷ js) is (f ∷ fs) us after g i = (g.0, joined js is fs us after g.1 i)
 
@@ -396,7 +395,7 @@ module _ {S E : Type 0} (turned : S → Kind → Step S E) (R : S → Type 0) (s
           rest (j ∷ js) is g = rest js is g.1
 
           go : (here : List Judged) → judged_in (script s h.form) ≡ here ++ h.broken ∷ h.ahead → Spells here (l ∷ front) [] → Faultless here → Faulty (script t) front k x
-          go [] g i c = let z : ◌≡◌ {A = ℕ} 0 1 = cc in absurd (omega arith)
+          go [] g i c = absurd cc
           go (j ∷ js) g i c =
               let sensed = subst Sensed g (sensed_within (script s h.form) s h.form refl) in
               let after = rest (h.broken ∷ []) h.ahead (rest (j ∷ js) (h.broken ∷ h.ahead) sensed) in
@@ -423,7 +422,7 @@ module _ {S E : Type 0} (turned : S → Kind → Step S E) (R : S → Type 0) (s
     begun-on s l front h = go h.here h.split h.spelled h.clear (view s h.form)
       where
         go : (here : List Judged) → judged_in (script s h.form) ≡ here ++ h.ahead → Spells here (l ∷ front) [] → Faultless here → View s (script s h.form) → (((back : List Lexeme) → TakesNone (script s) ((l ∷ front) ++ back) → ⊥)) ⊎ ((t : S) × (turned s (sense l.kind) ≡ onward t) × Begun (script t) front)
-        go [] g i c v = let z : ◌≡◌ {A = ℕ} 0 1 = cc in absurd (omega arith)
+        go [] g i c v = absurd cc
         go (j ∷ js) g i c v = way v.4
           where
             both : v.0 ∷ judged_in v.1 ≡ j ∷ (js ++ h.ahead)
@@ -443,8 +442,8 @@ module _ {S E : Type 0} (turned : S → Kind → Step S E) (R : S → Type 0) (s
 
             spelt : (is : List Judged) (fs back : List Lexeme) → [] ≡ is ++ h.ahead → Spells is fs [] → fs ++ back ≡ back
             spelt [] [] back k m = refl
-            spelt [] (f ∷ fs) back k m = let z : ◌≡◌ {A = ℕ} 0 1 = cc in absurd (omega arith)
-            spelt (i ∷ is) fs back k m = let z : ◌≡◌ {A = ℕ} 0 1 = cc in absurd (omega arith)
+            spelt [] (f ∷ fs) back k m = absurd cc
+            spelt (i ∷ is) fs back k m = absurd cc
 
             way : Way s v.0 v.1 → (((back : List Lexeme) → TakesNone (script s) ((l ∷ front) ++ back) → ⊥)) ⊎ ((t : S) × (turned s (sense l.kind) ≡ onward t) × Begun (script t) front)
             way (inl w) =

@@ -1,5 +1,5 @@
 -- A fact of each step that a state makes, kind by kind. Assumes nothing.
-use Rattle.std.proofs.Common.{◌≡◌, ℕ, cond, List, [], ℤ, sym, subst, arith}
+use Rattle.std.proofs.Common.{ℕ, cond, List, [], ℤ, sym, subst}
 use Rattle.std.proofs.lemmas.Slice.Eq.{bytes_eq-Decides}
 use Rattle.std.proofs.lemmas.Bool.{cond_both}
 use Rattle.std.specs.Str.{bytes_eq}
@@ -14,7 +14,7 @@ module _ {S E : Type 0} (P : Kind → Step S E → Type 0) where
   -- what no state takes
   pub by_refuse : ((w : List ℕ) → P (illegal w) (fails IllegalWord)) → ((k : Kind) → Legal k → P k (fails UnexpectedWord)) → (k : Kind) → P (sense k) (refuse (sense k))
   by_refuse i u (illegal w) = i w
-  by_refuse i u k = u (sense k) (λ v e. let z : ◌≡◌ {A = ℕ} 0 1 = cc in omega arith)
+  by_refuse i u k = u (sense k) (λ v e. cc)
 
   pub by_open : (x : Step S E) (f : Kind → Step S E) → P open' x → ((k : Kind) → P (sense k) (f (sense k))) → (k : Kind) → P (sense k) (on_open x f (sense k))
   by_open x f h g open' = h
