@@ -91,8 +91,8 @@ pub fn read_command(
     names: &mut Names,
     base: &Sealed,
 ) -> Result<Option<Command>, Refusal>
-    ensures reads { ReadsCommand (length (text_of words.old)) (sealed_classes base.now) (held names.old) (rest words.old)
-        result (held names.new) (rest words.new) }
+    ensures reads { ReadsCommand (length (text_of words.old)) (sealed_classes base.now) (held names.old)
+        (rest words.old) result (held names.new) (rest words.new) }
     ensures text { text_of words.new ≡ text_of words.old }
 {
     check_length(words)?;

@@ -5,7 +5,8 @@ ghost use Rattle.values.specs.Elements.{fields_of};
 ghost use Rattle.values.specs.Naming.{held};
 ghost use Rattle.rules.specs.Attributes.{declared};
 ghost use Rattle.rules.specs.Declarations.{classes_of};
-ghost use Rattle.reader.specs.declared.state.State.TheVariants.{Opening, Head, ClassName, Attributes, ElementClass, Pairs, Attribute, FieldValue, Tag, Closing};
+ghost use Rattle.reader.specs.declared.state.State.TheVariants.{Opening, Head, ClassName, Attributes};
+ghost use Rattle.reader.specs.declared.state.State.TheVariants.{ElementClass, Pairs, Attribute, FieldValue, Tag, Closing};
 ghost use Rattle.reader.specs.Meaning.{Turns};
 
 use crate::form::{Command, Phase, Taken};
