@@ -6,12 +6,9 @@ ghost use Rattle.rules.specs.Declarations.{classes_of};
 ghost use Rattle.rules.specs.Attributes.{declared};
 ghost use Rattle.rules.specs.Fitness.{condition_class};
 ghost use Rattle.rules.specs.Rules.{conditions_of, action_of, term_of};
-ghost use Rattle.languages.specs.Machines.{onward, whole, unless, refuse, on_open, on_close, on_hat, on_number, on_symbol};
-ghost use Rattle.languages.specs.Naming.{symbolic};
-ghost use Rattle.languages.specs.Senses.{sense};
-ghost use Rattle.productions.specs.Forms.{fixed, named};
-ghost use Rattle.productions.specs.Sofar.{with_action, one_setting, rule_read, action_fault, setting_fault, ordinal, unnumbered, acting_class, action_with};
-ghost use Rattle.productions.specs.Machine.{at_actions, at_action, at_closing, at_settings, at_setting, on_operand, action_word, make_word, modify_word, remove_word, setting_word, value_word};
+ghost use Rattle.languages.specs.Machines.{onward, unless};
+ghost use Rattle.productions.specs.Sofar.{with_action, one_setting, setting_fault, ordinal, unnumbered, acting_class, action_with};
+ghost use Rattle.productions.specs.Machine.{at_closing, at_settings, modify_word, remove_word};
 ghost use Rattle.productions.specs.Meaning.{sofar_of, acting_of, settings_of, Judges, Steps, Turns};
 
 use crate::draft::{Acting, Draft, count};

@@ -1,13 +1,11 @@
 // The words of conditions, but for their tests.
-ghost use Rattle.std.specs.Prelude.{◌≡◌, ℕ, Bool, false, List, []};
+ghost use Rattle.std.specs.Prelude.{ℕ, List, []};
 ghost use Rattle.words.specs.Kinds.{kind_of, open', close', minus, symbol};
 ghost use Rattle.values.specs.Naming.{held};
-ghost use Rattle.rules.specs.Rules.{condition_of};
 ghost use Rattle.rules.specs.Declarations.{classes_of};
-ghost use Rattle.languages.specs.Machines.{onward, unless, refuse, on_open, on_close, on_hat, on_minus, on_arrow, on_symbol};
+ghost use Rattle.languages.specs.Machines.{onward, refuse, on_open};
 ghost use Rattle.languages.specs.Senses.{sense};
-ghost use Rattle.productions.specs.Sofar.{with_condition, condition_fault, negated_fault};
-ghost use Rattle.productions.specs.Machine.{at_conditions, at_class, at_negated, at_actions, at_attribute, class_word, attribute_word};
+ghost use Rattle.productions.specs.Machine.{at_class};
 ghost use Rattle.productions.specs.Meaning.{sofar_of, Steps, Turns};
 
 use crate::draft::{Draft, blank_condition, count};

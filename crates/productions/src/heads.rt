@@ -3,10 +3,7 @@ ghost use Rattle.std.specs.Prelude.{ℕ, List, []};
 ghost use Rattle.words.specs.Kinds.{kind_of, symbol};
 ghost use Rattle.values.specs.Naming.{held};
 ghost use Rattle.rules.specs.Bases.{entering_rules};
-ghost use Rattle.languages.specs.Machines.{onward, refuse, on_open, on_symbol};
-ghost use Rattle.languages.specs.Senses.{sense};
-ghost use Rattle.productions.specs.Machine.{at_head, head_word, name_word};
-ghost use Rattle.productions.specs.Meaning.{Steps, Turns};
+ghost use Rattle.productions.specs.Meaning.{Turns};
 
 use crate::draft::Draft;
 use crate::state::{Halt, State, Step};

@@ -2,13 +2,13 @@
 ghost use Rattle.std.specs.Prelude.{◌≡◌, ℕ, List, [], ◌∷◌, ◌++◌};
 ghost use Rattle.words.specs.Kinds.{kind_of, open_choice, close_choice, test, variable, symbol};
 ghost use Rattle.values.specs.Naming.{held};
-ghost use Rattle.rules.specs.Rules.{condition_of, test_of, compared, choice, constant, plain};
-ghost use Rattle.languages.specs.Machines.{onward, unless, refuse, on_number, on_symbol, on_variable, on_close_choice};
-ghost use Rattle.languages.specs.Naming.{symbolic, numeric};
+ghost use Rattle.rules.specs.Rules.{condition_of, test_of};
+ghost use Rattle.languages.specs.Machines.{onward, unless, refuse};
+ghost use Rattle.languages.specs.Naming.{symbolic};
 ghost use Rattle.languages.specs.Senses.{sense};
-ghost use Rattle.productions.specs.Forms.{fixed, named, ordering};
+ghost use Rattle.productions.specs.Forms.{ordering};
 ghost use Rattle.productions.specs.Sofar.{one_test, with_test, test_fault, chosen_fault, one_constant, binding};
-ghost use Rattle.productions.specs.Machine.{at_pairs, at_operand, at_choice, at_choices, on_operand, on_chosen, bare_word, test_word, compared_word, compared_symbol, chosen_word, chosen_constant};
+ghost use Rattle.productions.specs.Machine.{at_pairs, at_choices, on_chosen, chosen_word, chosen_constant};
 ghost use Rattle.productions.specs.Meaning.{sofar_of, Steps, Turns};
 
 use crate::draft::{Draft, count};

@@ -2,8 +2,6 @@
 ghost use Rattle.words.specs.Kinds.{kind_of};
 ghost use Rattle.values.specs.Naming.{held};
 ghost use Rattle.rules.specs.Bases.{entering_classes, entering_rules};
-ghost use Rattle.languages.specs.Senses.{sense};
-ghost use Rattle.productions.specs.Machine.{turned};
 ghost use Rattle.productions.specs.Meaning.{Turns};
 
 use crate::actions::at_closing;
