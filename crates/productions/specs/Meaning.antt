@@ -1,15 +1,17 @@
 -- What the values of the reader of productions mean. Assumes nothing.
 use Rattle.std.specs.Prelude.{◌≡◌, ℕ, Bool, List, map, Some, None, Ok, Err, vec_items, Option, Result, slice_index_or}
+use Rattle.words.specs.Kinds.{Kind}
 use Rattle.values.specs.Spelling.{spelling}
 use Rattle.rules.specs.declared.place.Place.{Place}
 use Rattle.languages.specs.declared.refusal.Cause.{Cause}
 use Rattle.languages.specs.Refusals.{Fault, cause_of}
-use Rattle.rules.specs.Attributes.{declared}
-use Rattle.rules.specs.Rules.{Setting as SettingMeant, setting_of, condition_of, conditions_of, actions_of}
+use Rattle.rules.specs.Attributes.{Declared, declared}
+use Rattle.rules.specs.Rules.{Rule, Setting as SettingMeant, setting_of, condition_of, conditions_of, actions_of}
 use Rattle.rules.specs.Sizes.{size_meant}
 use Rattle.rules.specs.declared.action.Setting.{Setting as RustSetting}
 use Rattle.languages.specs.Machines.{onward, whole, fails}
 use Rattle.languages.specs.Naming.{Grows}
+use Rattle.languages.specs.Senses.{sense}
 use Rattle.productions.specs.declared.draft.Acting.{Acting as RustActing}
 use Rattle.productions.specs.declared.draft.Acting.TheVariants.{Make, Modify}
 use Rattle.productions.specs.declared.draft.Draft.{Draft}
@@ -24,7 +26,7 @@ use Rattle.productions.specs.declared.trouble.Trouble.TheVariants.{Refused as Te
 use Rattle.productions.specs.declared.variables.Variable.{Variable}
 use Rattle.productions.specs.declared.variables.Variables.{Variables}
 use Rattle.productions.specs.Sofar.{Met, Sofar, rule_read, first_met, nobody, met_fault_among, unbound_among, number_among, met_too, Acting, on_make, on_modify}
-use Rattle.productions.specs.Machine.{State, at_opening, at_head, at_name, at_first, at_conditions, at_negated, at_class, at_pairs, at_attribute, at_test, at_choice, at_operand, at_choices, at_actions, at_action, at_make, at_modify, at_remove, at_closing, at_settings, at_setting, at_value, Move}
+use Rattle.productions.specs.Machine.{State, at_opening, at_head, at_name, at_first, at_conditions, at_negated, at_class, at_pairs, at_attribute, at_test, at_choice, at_operand, at_choices, at_actions, at_action, at_make, at_modify, at_remove, at_closing, at_settings, at_setting, at_value, Move, turned}
 
 -- the variables that were met
 abbrev pub met_of : Variable → Met
@@ -99,17 +101,22 @@ state_of ns d Settings = at_settings (sofar_of ns d) (acting_of d.acting) (setti
 state_of ns d Setting = at_setting (sofar_of ns d) (acting_of d.acting) (settings_of (vec_items d.settings))
 state_of ns d (Value f) = at_value (sofar_of ns d) (acting_of d.acting) (settings_of (vec_items d.settings)) f.number
 
--- a turn of the code is a step of the reading, where the names and the draft are then these; memory runs out only at a word that
--- leads on
-abbrev pub Steps : Result Turn Halt → List (List ℕ) → Draft → Move → Type 0
-Steps (Ok (Onward s)) ns d t = onward (state_of ns d s) ≡ t
-Steps (Ok Whole) ns d t = whole (rule_read (sofar_of ns d), ns) ≡ t
-Steps (Err (Refused c)) ns d t = fails c ≡ t
-Steps (Err NoMemory) ns d t = (s : State) × (onward s ≡ t)
+-- what a turn of the code answers is a step of the reading, where the names and the draft are then ms and d; memory runs out only at
+-- a word that leads on
+abbrev pub Moves : Result Turn Halt → List (List ℕ) → Draft → Move → Type 0
+Moves (Ok (Onward s)) ms d t = onward (state_of ms d s) ≡ t
+Moves (Ok Whole) ms d t = whole (rule_read (sofar_of ms d), ms) ≡ t
+Moves (Err (Refused c)) ms d t = fails c ≡ t
+Moves (Err NoMemory) ms d t = (s : State) × (onward s ≡ t)
 
--- the same of a turn that may add names: they were ns, and are then ms
-abbrev pub Moves : Result Turn Halt → List (List ℕ) → List (List ℕ) → Draft → Move → Type 0
-Moves r ns ms d t = Steps r ms d t × Grows ns ms
+-- and the names, which were ns, are only added to
+abbrev pub Steps : List (List ℕ) → Result Turn Halt → List (List ℕ) → Draft → Move → Type 0
+Steps ns r ms d t = Moves r ms d t × Grows ns ms
+
+-- the same, of what the code answers to a word of the kind k in its state s, with the draft d before and e after; where the classes
+-- or the rules do not matter, [] stands for them
+abbrev pub Turns : List Declared → List Rule → List (List ℕ) → Draft → RustState → Kind → Result Turn Halt → List (List ℕ) → Draft → Type 0
+Turns cs rs ns d s k r ms e = Steps ns r ms e (turned cs rs (state_of ns d s) (sense k))
 
 -- why a production is not read, by why its word at this place is not taken
 abbrev pub trouble_at : Halt → ℕ → Trouble

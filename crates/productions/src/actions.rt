@@ -1,18 +1,15 @@
 // The words of actions.
 ghost use Rattle.std.specs.Prelude.{◌≡◌, ℕ, List, [], ◌∷◌, ◌++◌};
-ghost use Rattle.words.specs.Kinds.{kind_of};
+ghost use Rattle.words.specs.Kinds.{kind_of, open', close', variable, symbol};
 ghost use Rattle.values.specs.Naming.{held};
 ghost use Rattle.rules.specs.Declarations.{classes_of};
 ghost use Rattle.rules.specs.Attributes.{declared};
 ghost use Rattle.rules.specs.Fitness.{condition_class};
 ghost use Rattle.rules.specs.Rules.{conditions_of, action_of, term_of};
-ghost use Rattle.languages.specs.Machines.{onward, whole, unless, refuse, on_open, on_close, on_hat, on_number, on_symbol};
-ghost use Rattle.languages.specs.Naming.{symbolic};
-ghost use Rattle.languages.specs.Senses.{sense};
-ghost use Rattle.productions.specs.Forms.{fixed, named};
-ghost use Rattle.productions.specs.Sofar.{with_action, one_setting, rule_read, action_fault, setting_fault, ordinal, unnumbered, acting_class, action_with};
-ghost use Rattle.productions.specs.Machine.{at_actions, at_action, at_closing, at_settings, at_setting, on_operand, action_word, make_word, modify_word, remove_word, setting_word, value_word};
-ghost use Rattle.productions.specs.Meaning.{sofar_of, acting_of, settings_of, Judges, Steps, Moves};
+ghost use Rattle.languages.specs.Machines.{onward, unless};
+ghost use Rattle.productions.specs.Sofar.{with_action, one_setting, setting_fault, ordinal, unnumbered, acting_class, action_with};
+ghost use Rattle.productions.specs.Machine.{at_closing, at_settings, modify_word, remove_word};
+ghost use Rattle.productions.specs.Meaning.{sofar_of, acting_of, settings_of, Judges, Steps, Turns};
 
 use crate::draft::{Acting, Draft, count};
 use crate::state::{Halt, State, Step};
@@ -34,7 +31,7 @@ pub(crate) const MOST_ACTIONS: usize = 8;
 
 // `)` of an action.
 pub(crate) fn at_closing(token: &Token) -> Result<Step, Halt>
-    ensures { (ns : List (List ℕ)) (d : Draft) → Steps result ns d (on_close (onward (at_actions (sofar_of ns d))) refuse (sense (kind_of token.now))) }
+    ensures { (ns : List (List ℕ)) (d : Draft) → Turns [] [] ns d State.Closing (kind_of token.now) result ns d }
 {
     match token {
         Token::Close => Ok(Step::Onward(State::Actions)),
@@ -74,7 +71,7 @@ impl Acting {
 impl Draft {
     // Another action, or the end of the production.
     pub(crate) fn at_actions(&self, token: &Token) -> Result<Step, Halt>
-        ensures { (ns : List (List ℕ)) → Steps result ns self.now (on_open (unless (action_fault (sofar_of ns self.now)) (onward (at_action (sofar_of ns self.now)))) (on_close (whole (rule_read (sofar_of ns self.now), ns)) refuse) (sense (kind_of token.now))) }
+        ensures { (ns : List (List ℕ)) → Turns [] [] ns self.now State.Actions (kind_of token.now) result ns self.now }
     {
         match token {
             Token::Open => self.open_action(),
@@ -85,7 +82,7 @@ impl Draft {
 
     // One action more.
     fn open_action(&self) -> Result<Step, Halt>
-        ensures { (ns : List (List ℕ)) → Steps result ns self.now (unless (action_fault (sofar_of ns self.now)) (onward (at_action (sofar_of ns self.now)))) }
+        ensures { (ns : List (List ℕ)) → Turns [] [] ns self.now State.Actions open' result ns self.now }
     {
         if self.actions.len() >= MOST_ACTIONS {
             return Err(Halt::Refused(Cause::OverLimit));
@@ -95,7 +92,7 @@ impl Draft {
 
     // One action more, which is whole but for its `)`.
     fn add_action(&mut self, action: Action) -> Result<Step, Halt>
-        ensures { (ns : List (List ℕ)) → Steps result ns self.new (onward (at_closing (with_action (sofar_of ns self.old) (action_of action)))) }
+        ensures { (ns : List (List ℕ)) → Steps ns result ns self.new (onward (at_closing (with_action (sofar_of ns self.old) (action_of action)))) }
     {
         self.actions.push(action)?;
         Ok(Step::Onward(State::Closing))
@@ -103,7 +100,7 @@ impl Draft {
 
     // The head of an action.
     pub(crate) fn at_action(&mut self, token: &Token) -> Result<Step, Halt>
-        ensures { (ns : List (List ℕ)) → Steps result ns self.new (on_symbol (action_word (sofar_of ns self.old)) refuse (sense (kind_of token.now))) }
+        ensures { (ns : List (List ℕ)) → Turns [] [] ns self.old State.Action (kind_of token.now) result ns self.new }
     {
         match token {
             Token::Symbol(word) => self.action_head(word),
@@ -113,7 +110,7 @@ impl Draft {
 
     // The same, where it is a symbol.
     fn action_head(&mut self, word: &[u8]) -> Result<Step, Halt>
-        ensures { (ns : List (List ℕ)) → Steps result ns self.new (action_word (sofar_of ns self.old) word.now) }
+        ensures { (ns : List (List ℕ)) → Turns [] [] ns self.old State.Action (symbol word.now) result ns self.new }
     {
         match word {
             b"make" => Ok(Step::Onward(State::Make)),
@@ -126,7 +123,7 @@ impl Draft {
 
     // An action that gets settings begins.
     fn begin_settings(&mut self, acting: Acting) -> Step
-        ensures { (ns : List (List ℕ)) → Steps (Ok result) ns self.new (onward (at_settings (sofar_of ns self.old) (acting_of acting) [])) }
+        ensures { (ns : List (List ℕ)) → Steps ns (Ok result) ns self.new (onward (at_settings (sofar_of ns self.old) (acting_of acting) [])) }
     {
         self.acting = acting;
         self.settings.clear();
@@ -140,7 +137,7 @@ impl Draft {
         names: &Names,
         classes: &Classes,
     ) -> Result<Step, Halt>
-        ensures { Steps result (held names.now) self.new (on_symbol (make_word (classes_of classes.now) (sofar_of (held names.now) self.old)) refuse (sense (kind_of token.now))) }
+        ensures { Turns (classes_of classes.now) [] (held names.now) self.old State.Make (kind_of token.now) result (held names.now) self.new }
     {
         match token {
             Token::Symbol(word) => self.make_class(word, names, classes),
@@ -150,7 +147,7 @@ impl Draft {
 
     // The same, where it is a symbol: it is only looked up.
     fn make_class(&mut self, word: &[u8], names: &Names, classes: &Classes) -> Result<Step, Halt>
-        ensures { Steps result (held names.now) self.new (make_word (classes_of classes.now) (sofar_of (held names.now) self.old) word.now) }
+        ensures { Turns (classes_of classes.now) [] (held names.now) self.old State.Make (symbol word.now) result (held names.now) self.new }
     {
         let class = class_named(names, classes, word)?;
         Ok(self.begin_settings(Acting::Make(class)))
@@ -167,7 +164,7 @@ impl Draft {
 
     // The condition whose element is modified.
     pub(crate) fn at_modify(&mut self, token: &Token) -> Result<Step, Halt>
-        ensures { (ns : List (List ℕ)) → Steps result ns self.new (on_number (modify_word (sofar_of ns self.old)) refuse (sense (kind_of token.now))) }
+        ensures { (ns : List (List ℕ)) → Turns [] [] ns self.old State.Modify (kind_of token.now) result ns self.new }
     {
         match token {
             Token::Number(number, _) => self.modify(*number),
@@ -177,7 +174,7 @@ impl Draft {
 
     // The same, where it is a number.
     fn modify(&mut self, number: i32) -> Result<Step, Halt>
-        ensures { (ns : List (List ℕ)) → Steps result ns self.new (modify_word (sofar_of ns self.old) number) }
+        ensures { (ns : List (List ℕ)) → Steps ns result ns self.new (modify_word (sofar_of ns self.old) number) }
     {
         let (place, class) = self.condition_at(number)?;
         Ok(self.begin_settings(Acting::Modify(place, class)))
@@ -185,7 +182,7 @@ impl Draft {
 
     // The condition whose element is removed.
     pub(crate) fn at_remove(&mut self, token: &Token) -> Result<Step, Halt>
-        ensures { (ns : List (List ℕ)) → Steps result ns self.new (on_number (remove_word (sofar_of ns self.old)) refuse (sense (kind_of token.now))) }
+        ensures { (ns : List (List ℕ)) → Turns [] [] ns self.old State.Remove (kind_of token.now) result ns self.new }
     {
         match token {
             Token::Number(number, _) => self.remove(*number),
@@ -195,7 +192,7 @@ impl Draft {
 
     // The same, where it is a number.
     fn remove(&mut self, number: i32) -> Result<Step, Halt>
-        ensures { (ns : List (List ℕ)) → Steps result ns self.new (remove_word (sofar_of ns self.old) number) }
+        ensures { (ns : List (List ℕ)) → Steps ns result ns self.new (remove_word (sofar_of ns self.old) number) }
     {
         let (place, _) = self.condition_at(number)?;
         self.add_action(Action::Remove(place))
@@ -203,7 +200,7 @@ impl Draft {
 
     // Another setting of an action, or its end.
     pub(crate) fn at_settings(&mut self, token: &Token) -> Result<Step, Halt>
-        ensures { (ns : List (List ℕ)) → Steps result ns self.new (on_hat (onward (at_setting (sofar_of ns self.old) (acting_of self.old.acting) (settings_of self.old.settings.items))) (on_close (onward (at_actions (with_action (sofar_of ns self.old) (action_with (acting_of self.old.acting) (settings_of self.old.settings.items))))) refuse) (sense (kind_of token.now))) }
+        ensures { (ns : List (List ℕ)) → Turns [] [] ns self.old State.Settings (kind_of token.now) result ns self.new }
     {
         match token {
             Token::Hat => Ok(Step::Onward(State::Setting)),
@@ -214,7 +211,7 @@ impl Draft {
 
     // The action is whole.
     fn close_action(&mut self) -> Result<Step, Halt>
-        ensures { (ns : List (List ℕ)) → Steps result ns self.new (onward (at_actions (with_action (sofar_of ns self.old) (action_with (acting_of self.old.acting) (settings_of self.old.settings.items))))) }
+        ensures { (ns : List (List ℕ)) → Turns [] [] ns self.old State.Settings close' result ns self.new }
     {
         let settings = replace(&mut self.settings, Vec::new(self.heap));
         self.actions.push(self.acting.with(settings))?;
@@ -223,7 +220,7 @@ impl Draft {
 
     // The attribute of a setting.
     pub(crate) fn at_setting(&self, token: &Token, names: &Names) -> Result<Step, Halt>
-        ensures { Steps result (held names.now) self.now (on_symbol (setting_word (sofar_of (held names.now) self.now) (acting_of self.now.acting) (settings_of self.now.settings.items)) refuse (sense (kind_of token.now))) }
+        ensures { Turns [] [] (held names.now) self.now State.Setting (kind_of token.now) result (held names.now) self.now }
     {
         match token {
             Token::Symbol(word) => self.set_field(word, names),
@@ -233,7 +230,7 @@ impl Draft {
 
     // The same, where it is a symbol: it is only looked up.
     fn set_field(&self, word: &[u8], names: &Names) -> Result<Step, Halt>
-        ensures { Steps result (held names.now) self.now (setting_word (sofar_of (held names.now) self.now) (acting_of self.now.acting) (settings_of self.now.settings.items) word.now) }
+        ensures { Turns [] [] (held names.now) self.now State.Setting (symbol word.now) result (held names.now) self.now }
     {
         let field = field_named(names, &self.acting.class(), word)?;
         Ok(Step::Onward(State::Value(field)))
@@ -241,7 +238,7 @@ impl Draft {
 
     // One setting more.
     fn add_setting(&mut self, field: Place, value: Term) -> Result<Step, Halt>
-        ensures { (ns : List (List ℕ)) → Steps result ns self.new (unless (setting_fault (sofar_of ns self.old)) (onward (at_settings (one_setting (sofar_of ns self.old)) (acting_of self.old.acting) (settings_of self.old.settings.items ++ record { field = field.number; value = term_of value } ∷ [])))) }
+        ensures { (ns : List (List ℕ)) → Steps ns result ns self.new (unless (setting_fault (sofar_of ns self.old)) (onward (at_settings (one_setting (sofar_of ns self.old)) (acting_of self.old.acting) (settings_of self.old.settings.items ++ record { field = field.number; value = term_of value } ∷ [])))) }
     {
         count(&mut self.used.settings, MOST_SETTINGS)?;
         self.settings.push(Setting { field, value })?;
@@ -250,7 +247,7 @@ impl Draft {
 
     // A symbol as a value gets a name.
     fn set_symbol(&mut self, field: Place, word: &[u8], names: &mut Names) -> Result<Step, Halt>
-        ensures { Moves result (held names.old) (held names.new) self.new (value_word (sofar_of (held names.old) self.old) (acting_of self.old.acting) (settings_of self.old.settings.items) field.number (fixed (symbolic word.now))) }
+        ensures { Turns [] [] (held names.old) self.old (State.Value field) (symbol word.now) result (held names.new) self.new }
     {
         let number = names.intern(word).ok_or(Cause::OverLimit)?;
         self.add_setting(field, Term::Constant(Value::Symbol(number)))
@@ -258,7 +255,7 @@ impl Draft {
 
     // A variable as a value must have been met in an unnegated condition.
     fn set_variable(&mut self, field: Place, word: &[u8]) -> Result<Step, Halt>
-        ensures { (ns : List (List ℕ)) → Steps result ns self.new (value_word (sofar_of ns self.old) (acting_of self.old.acting) (settings_of self.old.settings.items) field.number (named word.now)) }
+        ensures { (ns : List (List ℕ)) → Turns [] [] ns self.old (State.Value field) (variable word.now) result ns self.new }
     {
         let place = self.variables.given(word)?;
         self.add_setting(field, Term::Variable(place))
@@ -271,7 +268,7 @@ impl Draft {
         token: &Token,
         names: &mut Names,
     ) -> Result<Step, Halt>
-        ensures { Moves result (held names.old) (held names.new) self.new (on_operand (value_word (sofar_of (held names.old) self.old) (acting_of self.old.acting) (settings_of self.old.settings.items) field.number) refuse (sense (kind_of token.now))) }
+        ensures { Turns [] [] (held names.old) self.old (State.Value field) (kind_of token.now) result (held names.new) self.new }
     {
         match token {
             Token::Number(n, _) => self.add_setting(field, Term::Constant(Value::Number(*n))),

@@ -1,14 +1,12 @@
 // The words of conditions, but for their tests.
-ghost use Rattle.std.specs.Prelude.{◌≡◌, ℕ, Bool, false, List};
-ghost use Rattle.words.specs.Kinds.{kind_of};
+ghost use Rattle.std.specs.Prelude.{ℕ, List, []};
+ghost use Rattle.words.specs.Kinds.{kind_of, open', close', minus, symbol};
 ghost use Rattle.values.specs.Naming.{held};
-ghost use Rattle.rules.specs.Rules.{condition_of};
 ghost use Rattle.rules.specs.Declarations.{classes_of};
-ghost use Rattle.languages.specs.Machines.{onward, unless, refuse, on_open, on_close, on_hat, on_minus, on_arrow, on_symbol};
+ghost use Rattle.languages.specs.Machines.{onward, refuse, on_open};
 ghost use Rattle.languages.specs.Senses.{sense};
-ghost use Rattle.productions.specs.Sofar.{with_condition, condition_fault, negated_fault};
-ghost use Rattle.productions.specs.Machine.{at_conditions, at_class, at_negated, at_actions, at_attribute, class_word, attribute_word};
-ghost use Rattle.productions.specs.Meaning.{sofar_of, Steps};
+ghost use Rattle.productions.specs.Machine.{at_class};
+ghost use Rattle.productions.specs.Meaning.{sofar_of, Steps, Turns};
 
 use crate::draft::{Draft, blank_condition, count};
 use crate::state::{Halt, State, Step};
@@ -29,7 +27,7 @@ pub(crate) const MOST_UNNEGATED: usize = 6;
 
 // `(` of a condition whose sign is known: of the first one, or after `-`.
 pub(crate) fn at_pattern(negated: bool, token: &Token) -> Result<Step, Halt>
-    ensures { (ns : List (List ℕ)) (d : Draft) → Steps result ns d (on_open (onward (at_class (sofar_of ns d) negated)) refuse (sense (kind_of token.now))) }
+    ensures { (ns : List (List ℕ)) (d : Draft) → Steps ns result ns d (on_open (onward (at_class (sofar_of ns d) negated)) refuse (sense (kind_of token.now))) }
 {
     match token {
         Token::Open => Ok(Step::Onward(State::Class(negated))),
@@ -40,7 +38,7 @@ pub(crate) fn at_pattern(negated: bool, token: &Token) -> Result<Step, Halt>
 impl Draft {
     // Another condition, or `-->`.
     pub(crate) fn at_conditions(&self, token: &Token) -> Result<Step, Halt>
-        ensures { (ns : List (List ℕ)) → Steps result ns self.now (on_open (unless (condition_fault (sofar_of ns self.now)) (onward (at_class (sofar_of ns self.now) false))) (on_minus (unless (negated_fault (sofar_of ns self.now)) (onward (at_negated (sofar_of ns self.now)))) (on_arrow (onward (at_actions (sofar_of ns self.now))) refuse)) (sense (kind_of token.now))) }
+        ensures { (ns : List (List ℕ)) → Turns [] [] ns self.now State.Conditions (kind_of token.now) result ns self.now }
     {
         match token {
             Token::Open => self.open_condition(),
@@ -52,7 +50,7 @@ impl Draft {
 
     // One unnegated condition more.
     fn open_condition(&self) -> Result<Step, Halt>
-        ensures { (ns : List (List ℕ)) → Steps result ns self.now (unless (condition_fault (sofar_of ns self.now)) (onward (at_class (sofar_of ns self.now) false))) }
+        ensures { (ns : List (List ℕ)) → Turns [] [] ns self.now State.Conditions open' result ns self.now }
     {
         if self.conditions.len() >= MOST_CONDITIONS {
             return Err(Halt::Refused(Cause::OverLimit));
@@ -65,7 +63,7 @@ impl Draft {
 
     // One negated condition more.
     fn negate_condition(&self) -> Result<Step, Halt>
-        ensures { (ns : List (List ℕ)) → Steps result ns self.now (unless (negated_fault (sofar_of ns self.now)) (onward (at_negated (sofar_of ns self.now)))) }
+        ensures { (ns : List (List ℕ)) → Turns [] [] ns self.now State.Conditions minus result ns self.now }
     {
         if self.conditions.len() >= MOST_CONDITIONS {
             return Err(Halt::Refused(Cause::OverLimit));
@@ -81,7 +79,7 @@ impl Draft {
         names: &Names,
         classes: &Classes,
     ) -> Result<Step, Halt>
-        ensures { Steps result (held names.now) self.new (on_symbol (class_word (classes_of classes.now) (sofar_of (held names.now) self.old) negated) refuse (sense (kind_of token.now))) }
+        ensures { Turns (classes_of classes.now) [] (held names.now) self.old (State.Class negated) (kind_of token.now) result (held names.now) self.new }
     {
         match token {
             Token::Symbol(word) => self.begin_condition(negated, word, names, classes),
@@ -97,7 +95,7 @@ impl Draft {
         names: &Names,
         classes: &Classes,
     ) -> Result<Step, Halt>
-        ensures { Steps result (held names.now) self.new (class_word (classes_of classes.now) (sofar_of (held names.now) self.old) negated word.now) }
+        ensures { Turns (classes_of classes.now) [] (held names.now) self.old (State.Class negated) (symbol word.now) result (held names.now) self.new }
     {
         let class = class_named(names, classes, word)?;
         count(&mut self.used.tests, MOST_TESTS)?;
@@ -109,7 +107,7 @@ impl Draft {
 
     // Another test of a condition, or its end.
     pub(crate) fn at_pairs(&mut self, token: &Token) -> Result<Step, Halt>
-        ensures { (ns : List (List ℕ)) → Steps result ns self.new (on_hat (onward (at_attribute (sofar_of ns self.old) (condition_of self.old.condition))) (on_close (onward (at_conditions (with_condition (sofar_of ns self.old) (condition_of self.old.condition)))) refuse) (sense (kind_of token.now))) }
+        ensures { (ns : List (List ℕ)) → Turns [] [] ns self.old State.Pairs (kind_of token.now) result ns self.new }
     {
         match token {
             Token::Hat => Ok(Step::Onward(State::Attribute)),
@@ -120,7 +118,7 @@ impl Draft {
 
     // The condition is whole.
     fn close_condition(&mut self) -> Result<Step, Halt>
-        ensures { (ns : List (List ℕ)) → Steps result ns self.new (onward (at_conditions (with_condition (sofar_of ns self.old) (condition_of self.old.condition)))) }
+        ensures { (ns : List (List ℕ)) → Turns [] [] ns self.old State.Pairs close' result ns self.new }
     {
         let next = blank_condition(self.heap);
         self.conditions.push(replace(&mut self.condition, next))?;
@@ -129,7 +127,7 @@ impl Draft {
 
     // The attribute of a test.
     pub(crate) fn at_attribute(&self, token: &Token, names: &Names) -> Result<Step, Halt>
-        ensures { Steps result (held names.now) self.now (on_symbol (attribute_word (sofar_of (held names.now) self.now) (condition_of self.now.condition)) refuse (sense (kind_of token.now))) }
+        ensures { Turns [] [] (held names.now) self.now State.Attribute (kind_of token.now) result (held names.now) self.now }
     {
         match token {
             Token::Symbol(word) => self.tested_field(word, names),
@@ -139,7 +137,7 @@ impl Draft {
 
     // The same, where it is a symbol: it is only looked up.
     fn tested_field(&self, word: &[u8], names: &Names) -> Result<Step, Halt>
-        ensures { Steps result (held names.now) self.now (attribute_word (sofar_of (held names.now) self.now) (condition_of self.now.condition) word.now) }
+        ensures { Turns [] [] (held names.now) self.now State.Attribute (symbol word.now) result (held names.now) self.now }
     {
         let field = field_named(names, &self.condition.class, word)?;
         Ok(Step::Onward(State::Test(field)))

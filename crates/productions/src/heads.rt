@@ -1,12 +1,9 @@
 // The words of a production up to its name.
-ghost use Rattle.std.specs.Prelude.{ℕ, List};
-ghost use Rattle.words.specs.Kinds.{kind_of};
+ghost use Rattle.std.specs.Prelude.{ℕ, List, []};
+ghost use Rattle.words.specs.Kinds.{kind_of, symbol};
 ghost use Rattle.values.specs.Naming.{held};
 ghost use Rattle.rules.specs.Bases.{entering_rules};
-ghost use Rattle.languages.specs.Machines.{onward, refuse, on_open, on_symbol};
-ghost use Rattle.languages.specs.Senses.{sense};
-ghost use Rattle.productions.specs.Machine.{at_head, head_word, name_word};
-ghost use Rattle.productions.specs.Meaning.{Steps, Moves};
+ghost use Rattle.productions.specs.Meaning.{Turns};
 
 use crate::draft::Draft;
 use crate::state::{Halt, State, Step};
@@ -17,7 +14,7 @@ use words::token::Token;
 
 // `(`.
 pub(crate) fn at_opening(token: &Token) -> Result<Step, Halt>
-    ensures { (ns : List (List ℕ)) (d : Draft) → Steps result ns d (on_open (onward (at_head ns)) refuse (sense (kind_of token.now))) }
+    ensures { (ns : List (List ℕ)) (d : Draft) → Turns [] [] ns d State.Opening (kind_of token.now) result ns d }
 {
     match token {
         Token::Open => Ok(Step::Onward(State::Head)),
@@ -27,7 +24,7 @@ pub(crate) fn at_opening(token: &Token) -> Result<Step, Halt>
 
 // `p`.
 pub(crate) fn at_head(token: &Token) -> Result<Step, Halt>
-    ensures { (ns : List (List ℕ)) (d : Draft) → Steps result ns d (on_symbol (head_word ns) refuse (sense (kind_of token.now))) }
+    ensures { (ns : List (List ℕ)) (d : Draft) → Turns [] [] ns d State.Head (kind_of token.now) result ns d }
 {
     match token {
         Token::Symbol(b"p") => Ok(Step::Onward(State::Name)),
@@ -43,7 +40,7 @@ impl Draft {
         names: &mut Names,
         base: &Entering,
     ) -> Result<Step, Halt>
-        ensures { Moves result (held names.old) (held names.new) self.new (on_symbol (name_word (entering_rules base.now) (held names.old)) refuse (sense (kind_of token.now))) }
+        ensures { Turns [] (entering_rules base.now) (held names.old) self.old State.Name (kind_of token.now) result (held names.new) self.new }
     {
         match token {
             Token::Symbol(word) => self.begin(word, names, base),
@@ -53,7 +50,7 @@ impl Draft {
 
     // The same, where it is a symbol: it gets a name, and must be new among the rules. The draft begins with it.
     fn begin(&mut self, word: &[u8], names: &mut Names, base: &Entering) -> Result<Step, Halt>
-        ensures { Moves result (held names.old) (held names.new) self.new (name_word (entering_rules base.now) (held names.old) word.now) }
+        ensures { Turns [] (entering_rules base.now) (held names.old) self.old State.Name (symbol word.now) result (held names.new) self.new }
     {
         let number = names.intern(word).ok_or(Cause::OverLimit)?;
         if base.has_rule(number) {

@@ -1,15 +1,15 @@
 // The words of tests.
 ghost use Rattle.std.specs.Prelude.{◌≡◌, ℕ, List, [], ◌∷◌, ◌++◌};
-ghost use Rattle.words.specs.Kinds.{kind_of};
+ghost use Rattle.words.specs.Kinds.{kind_of, open_choice, close_choice, test, variable, symbol};
 ghost use Rattle.values.specs.Naming.{held};
-ghost use Rattle.rules.specs.Rules.{condition_of, test_of, compared, choice, constant, plain};
-ghost use Rattle.languages.specs.Machines.{onward, unless, refuse, on_number, on_symbol, on_variable, on_close_choice};
-ghost use Rattle.languages.specs.Naming.{symbolic, numeric};
+ghost use Rattle.rules.specs.Rules.{condition_of, test_of};
+ghost use Rattle.languages.specs.Machines.{onward, unless, refuse};
+ghost use Rattle.languages.specs.Naming.{symbolic};
 ghost use Rattle.languages.specs.Senses.{sense};
-ghost use Rattle.productions.specs.Forms.{fixed, named, ordering};
+ghost use Rattle.productions.specs.Forms.{ordering};
 ghost use Rattle.productions.specs.Sofar.{one_test, with_test, test_fault, chosen_fault, one_constant, binding};
-ghost use Rattle.productions.specs.Machine.{at_pairs, at_operand, at_choice, at_choices, on_operand, on_chosen, bare_word, test_word, compared_word, compared_symbol, chosen_word, chosen_constant};
-ghost use Rattle.productions.specs.Meaning.{sofar_of, Steps, Moves};
+ghost use Rattle.productions.specs.Machine.{at_pairs, at_choices, on_chosen, chosen_word, chosen_constant};
+ghost use Rattle.productions.specs.Meaning.{sofar_of, Steps, Turns};
 
 use crate::draft::{Draft, count};
 use crate::state::{Halt, State, Step};
@@ -42,7 +42,7 @@ fn is_binding(predicate: Predicate) -> bool
 impl Draft {
     // One test of the condition more.
     fn add_test(&mut self, field: Place, test: Test) -> Result<Step, Halt>
-        ensures { (ns : List (List ℕ)) → Steps result ns self.new (onward (at_pairs (sofar_of ns self.old) (with_test (condition_of self.old.condition) field.number (test_of test)))) }
+        ensures { (ns : List (List ℕ)) → Steps ns result ns self.new (onward (at_pairs (sofar_of ns self.old) (with_test (condition_of self.old.condition) field.number (test_of test)))) }
     {
         self.condition.tests.push(FieldTest { field, test })?;
         Ok(Step::Onward(State::Pairs))
@@ -50,7 +50,7 @@ impl Draft {
 
     // A test that is an operand by itself counts as one.
     fn add_bare_test(&mut self, field: Place, test: Test) -> Result<Step, Halt>
-        ensures { (ns : List (List ℕ)) → Steps result ns self.new (unless (test_fault (sofar_of ns self.old)) (onward (at_pairs (one_test (sofar_of ns self.old)) (with_test (condition_of self.old.condition) field.number (test_of test))))) }
+        ensures { (ns : List (List ℕ)) → Steps ns result ns self.new (unless (test_fault (sofar_of ns self.old)) (onward (at_pairs (one_test (sofar_of ns self.old)) (with_test (condition_of self.old.condition) field.number (test_of test))))) }
     {
         count(&mut self.used.tests, MOST_TESTS)?;
         self.add_test(field, test)
@@ -58,7 +58,7 @@ impl Draft {
 
     // A symbol as a test gets a name.
     fn bare_symbol(&mut self, field: Place, word: &[u8], names: &mut Names) -> Result<Step, Halt>
-        ensures { Moves result (held names.old) (held names.new) self.new (bare_word (sofar_of (held names.old) self.old) (condition_of self.old.condition) field.number (fixed (symbolic word.now))) }
+        ensures { Turns [] [] (held names.old) self.old (State.Test field) (symbol word.now) result (held names.new) self.new }
     {
         let number = names.intern(word).ok_or(Cause::OverLimit)?;
         self.add_bare_test(field, Test::Constant(Value::Symbol(number)))
@@ -66,7 +66,7 @@ impl Draft {
 
     // A variable as a test may be met first there.
     fn bare_variable(&mut self, field: Place, word: &[u8]) -> Result<Step, Halt>
-        ensures { (ns : List (List ℕ)) → Steps result ns self.new (bare_word (sofar_of ns self.old) (condition_of self.old.condition) field.number (named word.now)) }
+        ensures { (ns : List (List ℕ)) → Turns [] [] ns self.old (State.Test field) (variable word.now) result ns self.new }
     {
         let condition = self.conditions.len();
         let negated = self.condition.negated;
@@ -76,7 +76,7 @@ impl Draft {
 
     // A predicate begins a test.
     fn open_comparison(&mut self, field: Place, predicate: Predicate) -> Result<Step, Halt>
-        ensures { (ns : List (List ℕ)) → Steps result ns self.new (unless (test_fault (sofar_of ns self.old)) (onward (at_operand (one_test (sofar_of ns self.old)) (condition_of self.old.condition) field.number predicate))) }
+        ensures { (ns : List (List ℕ)) → Turns [] [] ns self.old (State.Test field) (test predicate) result ns self.new }
     {
         count(&mut self.used.tests, MOST_TESTS)?;
         Ok(Step::Onward(State::Operand(field, predicate)))
@@ -84,7 +84,7 @@ impl Draft {
 
     // `<<` begins a test.
     fn open_choice(&mut self, field: Place) -> Result<Step, Halt>
-        ensures { (ns : List (List ℕ)) → Steps result ns self.new (unless (test_fault (sofar_of ns self.old)) (onward (at_choice (one_test (sofar_of ns self.old)) (condition_of self.old.condition) field.number))) }
+        ensures { (ns : List (List ℕ)) → Turns [] [] ns self.old (State.Test field) open_choice result ns self.new }
     {
         count(&mut self.used.tests, MOST_TESTS)?;
         Ok(Step::Onward(State::Choice(field)))
@@ -97,7 +97,7 @@ impl Draft {
         token: &Token,
         names: &mut Names,
     ) -> Result<Step, Halt>
-        ensures { Moves result (held names.old) (held names.new) self.new (on_operand (bare_word (sofar_of (held names.old) self.old) (condition_of self.old.condition) field.number) (test_word (sofar_of (held names.old) self.old) (condition_of self.old.condition) field.number) (sense (kind_of token.now))) }
+        ensures { Turns [] [] (held names.old) self.old (State.Test field) (kind_of token.now) result (held names.new) self.new }
     {
         match token {
             Token::Number(n, _) => self.add_bare_test(field, Test::Constant(Value::Number(*n))),
@@ -117,7 +117,7 @@ impl Draft {
         word: &[u8],
         names: &mut Names,
     ) -> Result<Step, Halt>
-        ensures { Moves result (held names.old) (held names.new) self.new (compared_symbol (sofar_of (held names.old) self.old) (condition_of self.old.condition) field.number predicate word.now) }
+        ensures { Turns [] [] (held names.old) self.old (State.Operand field predicate) (symbol word.now) result (held names.new) self.new }
     {
         if is_ordering(predicate) {
             return Err(Halt::Refused(Cause::UnexpectedWord));
@@ -133,7 +133,7 @@ impl Draft {
         predicate: Predicate,
         word: &[u8],
     ) -> Result<Step, Halt>
-        ensures { (ns : List (List ℕ)) → Steps result ns self.new (compared_word (sofar_of ns self.old) (condition_of self.old.condition) field.number predicate (named word.now)) }
+        ensures { (ns : List (List ℕ)) → Turns [] [] ns self.old (State.Operand field predicate) (variable word.now) result ns self.new }
     {
         let condition = self.conditions.len();
         let negated = self.condition.negated;
@@ -150,7 +150,7 @@ impl Draft {
         token: &Token,
         names: &mut Names,
     ) -> Result<Step, Halt>
-        ensures { Moves result (held names.old) (held names.new) self.new (on_number (λ n. compared_word (sofar_of (held names.old) self.old) (condition_of self.old.condition) field.number predicate (fixed (numeric n))) (on_symbol (compared_symbol (sofar_of (held names.old) self.old) (condition_of self.old.condition) field.number predicate) (on_variable (λ w. compared_word (sofar_of (held names.old) self.old) (condition_of self.old.condition) field.number predicate (named w)) refuse)) (sense (kind_of token.now))) }
+        ensures { Turns [] [] (held names.old) self.old (State.Operand field predicate) (kind_of token.now) result (held names.new) self.new }
     {
         match token {
             Token::Number(n, _) => self.add_test(
@@ -165,7 +165,7 @@ impl Draft {
 
     // One constant of the choice more.
     fn add_constant(&mut self, field: Place, value: Value) -> Result<Step, Halt>
-        ensures { (ns : List (List ℕ)) → Steps result ns self.new (unless (chosen_fault (sofar_of ns self.old)) (onward (at_choices (one_constant (sofar_of ns self.old)) (condition_of self.old.condition) field.number (self.old.choice.items ++ value ∷ [])))) }
+        ensures { (ns : List (List ℕ)) → Steps ns result ns self.new (unless (chosen_fault (sofar_of ns self.old)) (onward (at_choices (one_constant (sofar_of ns self.old)) (condition_of self.old.condition) field.number (self.old.choice.items ++ value ∷ [])))) }
     {
         count(&mut self.used.constants, MOST_CONSTANTS)?;
         self.choice.push(value)?;
@@ -174,7 +174,7 @@ impl Draft {
 
     // A word of a choice that is no number is a symbol, and gets a name.
     fn chosen_symbol(&mut self, field: Place, word: &[u8], names: &mut Names) -> Result<Step, Halt>
-        ensures { Moves result (held names.old) (held names.new) self.new (chosen_constant (sofar_of (held names.old) self.old) (condition_of self.old.condition) field.number self.old.choice.items (symbolic word.now)) }
+        ensures { Steps (held names.old) result (held names.new) self.new (chosen_constant (sofar_of (held names.old) self.old) (condition_of self.old.condition) field.number self.old.choice.items (symbolic word.now)) }
     {
         let number = names.intern(word).ok_or(Cause::OverLimit)?;
         self.add_constant(field, Value::Symbol(number))
@@ -182,7 +182,7 @@ impl Draft {
 
     // A word of a choice, by its bytes if it is no number; `>>` and words that are not plain are for the caller.
     fn chosen(&mut self, field: Place, token: &Token, names: &mut Names) -> Result<Step, Halt>
-        ensures { Moves result (held names.old) (held names.new) self.new (on_chosen (chosen_word (sofar_of (held names.old) self.old) (condition_of self.old.condition) field.number self.old.choice.items) refuse (sense (kind_of token.now))) }
+        ensures { Steps (held names.old) result (held names.new) self.new (on_chosen (chosen_word (sofar_of (held names.old) self.old) (condition_of self.old.condition) field.number self.old.choice.items) refuse (sense (kind_of token.now))) }
     {
         match token {
             Token::Number(n, _) => self.add_constant(field, Value::Number(*n)),
@@ -202,7 +202,7 @@ impl Draft {
         token: &Token,
         names: &mut Names,
     ) -> Result<Step, Halt>
-        ensures { Moves result (held names.old) (held names.new) self.new (on_chosen (chosen_word (sofar_of (held names.old) self.old) (condition_of self.old.condition) field.number []) refuse (sense (kind_of token.now))) }
+        ensures { Turns [] [] (held names.old) self.old (State.Choice field) (kind_of token.now) result (held names.new) self.new }
     {
         self.choice.clear();
         self.chosen(field, token, names)
@@ -210,7 +210,7 @@ impl Draft {
 
     // The choice is whole.
     fn close_choice(&mut self, field: Place) -> Result<Step, Halt>
-        ensures { (ns : List (List ℕ)) → Steps result ns self.new (onward (at_pairs (sofar_of ns self.old) (with_test (condition_of self.old.condition) field.number (choice self.old.choice.items)))) }
+        ensures { (ns : List (List ℕ)) → Turns [] [] ns self.old (State.Choices field) close_choice result ns self.new }
     {
         let constants = replace(&mut self.choice, Vec::new(self.heap));
         self.add_test(field, Test::Choice(constants))
@@ -223,7 +223,7 @@ impl Draft {
         token: &Token,
         names: &mut Names,
     ) -> Result<Step, Halt>
-        ensures { Moves result (held names.old) (held names.new) self.new (on_close_choice (onward (at_pairs (sofar_of (held names.old) self.old) (with_test (condition_of self.old.condition) field.number (choice self.old.choice.items)))) (on_chosen (chosen_word (sofar_of (held names.old) self.old) (condition_of self.old.condition) field.number self.old.choice.items) refuse) (sense (kind_of token.now))) }
+        ensures { Turns [] [] (held names.old) self.old (State.Choices field) (kind_of token.now) result (held names.new) self.new }
     {
         match token {
             Token::CloseChoice => self.close_choice(field),

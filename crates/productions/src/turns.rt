@@ -2,9 +2,7 @@
 ghost use Rattle.words.specs.Kinds.{kind_of};
 ghost use Rattle.values.specs.Naming.{held};
 ghost use Rattle.rules.specs.Bases.{entering_classes, entering_rules};
-ghost use Rattle.languages.specs.Senses.{sense};
-ghost use Rattle.productions.specs.Machine.{turned};
-ghost use Rattle.productions.specs.Meaning.{state_of, Moves};
+ghost use Rattle.productions.specs.Meaning.{Turns};
 
 use crate::actions::at_closing;
 use crate::conditions::at_pattern;
@@ -25,7 +23,7 @@ impl Draft {
         names: &mut Names,
         base: &Entering,
     ) -> Result<Step, Halt>
-        ensures { Moves result (held names.old) (held names.new) self.new (turned (entering_classes base.now) (entering_rules base.now) (state_of (held names.old) self.old state) (sense (kind_of token.now))) }
+        ensures { Turns (entering_classes base.now) (entering_rules base.now) (held names.old) self.old state (kind_of token.now) result (held names.new) self.new }
     {
         match state {
             State::Opening => at_opening(token),
