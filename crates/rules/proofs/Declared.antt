@@ -15,15 +15,6 @@ use Rattle.rules.specs.declared.rule.Rule.{Rule}
 pub fifteen : (c : Class) → length (declared c).attributes ≤ 15
 fifteen c = omega (arith, c.attributes.short, length-take c.attributes.len c.attributes.bytes)
 
--- a place counted from one more
-pub counted_on : {X : Type 0} (test : X → Bool) (n : ℕ) (xs : List X) → option_map (λ p. p + 1) (position_from test n xs) ≡ first_from test (n + 1) xs
-counted_on test n [] = refl
-counted_on test n (x ∷ xs) = go (test x) (counted_on test (n + 1) xs)
-  where
-    go : (b : Bool) → option_map (λ p. p + 1) (position_from test (n + 1) xs) ≡ first_from test (n + 1 + 1) xs → option_map (λ p. p + 1) (cond b (Some n) (position_from test (n + 1) xs)) ≡ cond b (Some (n + 1)) (first_from test (n + 1 + 1) xs)
-    go true e = refl
-    go false e = e
-
 -- looking through the code's classes is looking through the declared ones
 pub found-class : (cs : List Class) (n : ℕ) → option_map declared (find (λ c. eqb c.name n) cs) ≡ find_class (map declared cs) n
 found-class [] n = refl
