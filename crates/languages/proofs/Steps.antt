@@ -3,9 +3,8 @@ use Rattle.std.proofs.Common.{◌≡◌, ℕ, ◌≤◌, max, List, ◌∷◌, �
 use Rattle.std.proofs.lemmas.List.{take-append-le, take_all}
 use Rattle.words.specs.Kinds.{Kind}
 use Rattle.words.specs.Words.{Lexeme}
-use Rattle.languages.specs.declared.refusal.Cause.{Cause}
 use Rattle.languages.specs.Senses.{sense}
-use Rattle.languages.specs.Machines.{Step, onward, whole, fails, Outcome, taken, stopped, on_step, run}
+use Rattle.languages.specs.Machines.{Step, onward, Outcome, taken, stopped, on_step, run}
 use Rattle.languages.specs.Naming.{Grows}
 
 module _ {S E : Type 0} (turned : S → Kind → Step S E) (s : S) (l : Lexeme) (ls before : List Lexeme) (o : Outcome E) (b : before ≡ l ∷ ls) (h : run turned s before ≡ o) where

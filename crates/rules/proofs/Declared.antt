@@ -1,9 +1,8 @@
 -- Looking up attributes, classes and rules. Assumes nothing.
-use Rattle.std.proofs.Common.{◌≡◌, ℕ, ◌+◌, ◌≤◌, Bool, true, false, cond, ◌||◌, eqb, List, [], ◌∷◌, map, length, Some, refl, ap, arith}
+use Rattle.std.proofs.Common.{◌≡◌, ℕ, ◌≤◌, Bool, true, false, cond, ◌||◌, eqb, List, [], ◌∷◌, map, length, Some, refl, ap, arith}
 use Rattle.std.proofs.lemmas.List.{length-take}
-use Rattle.std.specs.List.{position_from, find, list_any}
+use Rattle.std.specs.List.{find, list_any}
 use Rattle.std.specs.Option.{option_map}
-use Rattle.values.specs.Firsts.{first_from}
 use Rattle.rules.specs.Attributes.{declared}
 use Rattle.rules.specs.Declarations.{find_class}
 use Rattle.rules.specs.Ruled.{rules_of}
