@@ -33,8 +33,8 @@ pub trait Facts {
 }
 
 // Facts that can be added and removed. What a call leaves is said of all three parts at once: the pairs, the last
-// time tag and the capacity. `meant` puts them together in each clause: one more ghost member for all three would need a
-// law that says what it is, and its proof in each memory.
+// time tag and the capacity. `meant` puts them together in each clause: one more ghost member for all three would need
+// a law that says what it is, and its proof in each memory.
 pub trait Memory: Facts {
     // The last time tag that was given.
     ghost last: { Self → ℕ };

@@ -4,7 +4,8 @@ ghost use Rattle.orders.specs.Headings.{HeadingAbove};
 
 use crate::order::Order;
 
-// What an element is listed by: its class symbol and its time tag. Headings compare by the class, and of one class by the tag.
+// What an element is listed by: its class symbol and its time tag. Headings compare by the class, and of one class by
+// the tag.
 #[derive(Clone, Copy, PartialEq, Eq, PartialOrd, Ord, Debug)]
 pub struct Heading {
     pub class: u8,

@@ -9,7 +9,8 @@ pub trait Order {
     // Which two things stand in the order, the first above the second.
     ghost above: { Self → Self.Ranked → Self.Ranked → Type 0 };
 
-    // It is an order: nothing stands above itself, of two different things exactly one stands above the other, and above carries on.
+    // It is an order: nothing stands above itself, of two different things exactly one stands above the other, and
+    // above carries on.
     ghost laws: { (o : Self) → OrderLaws (above o) };
 
     // Whether `a` stands above `b`.

@@ -1,5 +1,5 @@
-// The states of a rule base: classes are declared, then rules are entered, then it is sealed. Each move uses up the state
-// before it and cannot refuse, so a class cannot be declared late, and nothing can be entered into a sealed base.
+// The states of a rule base: classes are declared, then rules are entered, then it is sealed. Each move uses up the
+// state before it and cannot refuse, so a class cannot be declared late, and nothing can be entered into a sealed base.
 ghost use Rattle.std.specs.Prelude.{◌≡◌, []};
 
 use crate::classes::Classes;

@@ -8,7 +8,8 @@ use rows::few::Full;
 pub enum NotTaken {
     // Another has its name.
     Twice,
-    // There are as many as there may be. A rule is one too many also where the base has no room for its tests, constants or settings.
+    // There are as many as there may be. A rule is one too many also where the base has no room for its tests,
+    // constants of choices or settings.
     TooMany,
 }
 

@@ -15,7 +15,8 @@ fn choice_counts(constants: &[Value]) -> usize
     constants.len()
 }
 
-// What a variable under no predicate counts: one if it was met before. Variables have numbers below 16, so a mark for each is a set.
+// What a variable under no predicate counts: one if it was met before. Variables have numbers below 16, so a mark for
+// each is a set.
 fn variable_counts(met: &[bool; 16], variable: Place) -> usize
     ensures { result ≡ variable_counts met.now variable.number }
 {
@@ -52,7 +53,8 @@ fn mark_test(met: &mut [bool; 16], test: &Test)
     }
 }
 
-// What tests count in their order; the variable of each is met for those behind it. So this is a loop: a chain may not change the marks.
+// What tests count in their order; the variable of each is met for those behind it. So this is a loop: a chain may not
+// change the marks.
 fn tests_count(met: &mut [bool; 16], tests: &[FieldTest]) -> usize
     requires { marked_tests_count met.old (field_tests_of tests.now) < 2 ^ 64 }
     ensures value { result ≡ marked_tests_count met.old (field_tests_of tests.now) }
