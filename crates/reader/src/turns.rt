@@ -41,7 +41,8 @@ fn at_head(phase: Phase, token: &Token) -> Result<Step, Cause>
     }
 }
 
-// The same, where it is a symbol.
+// The same, where it is a symbol; in a function of its own, since one match on the token and on its bytes was tried, and
+// the proof of its last arm did not close.
 fn head_word(phase: Phase, word: &[u8]) -> Result<Step, Cause>
     ensures { (ns : List (List ℕ)) → Turns [] ns (Head phase) (symbol word.now) result ns }
 {
