@@ -64,11 +64,7 @@ impl Draft {
             conditions: Vec::new(heap),
             variables,
             actions: Vec::new(heap),
-            used: Size {
-                tests: 0,
-                constants: 0,
-                settings: 0,
-            },
+            used: Size::default(),
             condition: blank_condition(heap),
             choice: Vec::new(heap),
             acting: Acting::Make(Class::new(0)),
