@@ -81,7 +81,7 @@ fn expect_refusal<T: Drop>(
 }
 
 // The names are as many as before, and the new one of the refused form is not among them.
-fn expect_kept(rt: &(impl Abort + AllocGlobal), text: &[u8], names: &Names, count: usize) {
+fn expect_kept(rt: &impl Abort, text: &[u8], names: &Names, count: usize) {
     assert_eq!(rt;
         (names.count(), names.find(b"fresh")),
         (count, None),

@@ -1,13 +1,12 @@
 -- Two languages whose forms have the same words, of which the same is wrong with each up to the first that breaks a rule, take the
 -- same and refuse the same. Assumes nothing.
-use Rattle.std.proofs.Common.{◌≡◌, ℕ, List, [], ◌∷◌, ◌++◌, map, None, sym, refl, ap, ◌∙◌, subst, arith}
-use Rattle.words.specs.Kinds.{Kind}
+use Rattle.std.proofs.Common.{◌≡◌, ℕ, List, [], ◌∷◌, ◌++◌, map, None, sym, refl, ap, ◌∙◌, subst}
 use Rattle.words.specs.Words.{Lexeme}
 use Rattle.languages.specs.declared.refusal.Cause.{Cause}
 use Rattle.languages.specs.declared.refusal.Cause.TheVariants.{IllegalWord, UnexpectedWord, WrongName, WrongVariable, NoSuchCondition, OverLimit}
 use Rattle.languages.specs.Refusals.{Fault}
 use Rattle.languages.specs.Scripts.{Judged, judge, Script, judged_in, asked_by, Faultless}
-use Rattle.languages.specs.Languages.{Spells, Takes, TakesNone, Viable, Begun, Faulty, Reason, Stands, Broken, OneAnswer}
+use Rattle.languages.specs.Languages.{Spells, Takes, TakesNone, Begun, Faulty, Reason, Stands, Broken, OneAnswer}
 
 -- the same words, and the same wrong with each up to the first that breaks a rule
 abbrev pub Alike : List Judged → List Judged → Type 0
@@ -30,8 +29,8 @@ alike-sym (j ∷ js) (k ∷ ks) a = (sym a.0, sym a.1, sym a.2, λ e. alike-sym 
 
 same-spelled : (js ks : List Judged) (ls after : List Lexeme) → map (λ x. x.word) js ≡ map (λ x. x.word) ks → Spells js ls after → Spells ks ls after
 same-spelled [] [] ls after e h = h
-same-spelled [] (k ∷ ks) ls after e h = let z : ◌≡◌ {A = ℕ} 0 1 = cc in absurd (omega arith)
-same-spelled (j ∷ js) [] ls after e h = let z : ◌≡◌ {A = ℕ} 0 1 = cc in absurd (omega arith)
+same-spelled [] (k ∷ ks) ls after e h = absurd cc
+same-spelled (j ∷ js) [] ls after e h = absurd cc
 same-spelled (j ∷ js) (k ∷ ks) [] after e h = absurd h
 same-spelled (j ∷ js) (k ∷ ks) (l ∷ ls) after e h =
     let w : j.word ≡ k.word = cc in

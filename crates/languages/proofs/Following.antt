@@ -15,7 +15,7 @@ abbrev pub Legal : Kind → Type 0
 Legal k = (w : List ℕ) → k ≡ illegal w → ⊥
 
 pub legal_symbol : (w : List ℕ) → Legal (symbol w)
-legal_symbol w v e = let z : ◌≡◌ {A = ℕ} 0 1 = cc in omega arith
+legal_symbol w v e = cc
 
 -- words follow the judged ones up to the first that breaks a rule
 abbrev pub halts : {E : Type 0} → Option Fault → List Lexeme → Outcome E → Outcome E
@@ -49,16 +49,10 @@ spells_for (j ∷ js) h = (h.0, spells_for js h.1)
 -- a step that is refused only where the word breaks a rule is never one for a word that cannot continue
 unless-expected : {S E : Type 0} (f : Option Fault) (x : Step S E) → (x ≡ fails UnexpectedWord → ⊥) → unless f x ≡ fails UnexpectedWord → ⊥
 unless-expected None x n e = n e
-unless-expected (Some wrong_name) x n e = let z : ◌≡◌ {A = ℕ} 0 1 = cc in omega arith
-unless-expected (Some wrong_variable) x n e = let z : ◌≡◌ {A = ℕ} 0 1 = cc in omega arith
-unless-expected (Some no_such_condition) x n e = let z : ◌≡◌ {A = ℕ} 0 1 = cc in omega arith
-unless-expected (Some over_limit) x n e = let z : ◌≡◌ {A = ℕ} 0 1 = cc in omega arith
-
-onward-expected : {S E : Type 0} (t : S) → ◌≡◌ {A = Step S E} (onward t) (fails UnexpectedWord) → ⊥
-onward-expected t e = let z : ◌≡◌ {A = ℕ} 0 1 = cc in omega arith
-
-whole-expected : {S E : Type 0} (x : E) → ◌≡◌ {A = Step S E} (whole x) (fails UnexpectedWord) → ⊥
-whole-expected x e = let z : ◌≡◌ {A = ℕ} 0 1 = cc in omega arith
+unless-expected (Some wrong_name) x n e = cc
+unless-expected (Some wrong_variable) x n e = cc
+unless-expected (Some no_such_condition) x n e = cc
+unless-expected (Some over_limit) x n e = cc
 
 -- ---- a machine, and for each state what may be left of a form there
 
@@ -147,14 +141,12 @@ module _ {S E : Type 0} (turned : S → Kind → Step S E) (R : S → Type 0) (s
         ∙ verdict_clear (judged_in (script s t.form)) ls after _ t.clear t.spelled
         ∙ ap (λ x. taken x after) (sym t.asked)
 
-    taken-stopped : (e : E) (after back : List Lexeme) (c : Cause) → taken e after ≡ stopped c back → ⊥
-    taken-stopped e after back c h = let z : ◌≡◌ {A = ℕ} 0 1 = cc in omega arith
-
     -- a reading that stopped took no form
     pub stopped_none : (s : S) (ls back : List Lexeme) (c : Cause) → run turned s ls ≡ stopped c back → TakesNone (script s) ls
     stopped_none s ls back c e form after spelled clear =
-        taken-stopped (asked_by (script s form)) after back c
-        (sym (takes_run s ls (asked_by (script s form)) after (record { form = form; spelled = spelled; clear = clear; asked = refl })) ∙ e)
+        let t = takes_run s ls (asked_by (script s form)) after (record { form = form; spelled = spelled; clear = clear; asked = refl }) in
+        let both : taken (asked_by (script s form)) after ≡ stopped c back = sym t ∙ e in
+        cc
 
     -- ---- what the outcome of a reading says of the words
 
@@ -193,13 +185,12 @@ module _ {S E : Type 0} (turned : S → Kind → Step S E) (R : S → Type 0) (s
 
             clear : (f : Option Fault) (x : Step S E) → unless f x ≡ onward t → (f ≡ None) × (x ≡ onward t)
             clear None x g = (refl, g)
-            clear (Some f) x g = let z : ◌≡◌ {A = ℕ} 0 1 = cc in absurd (omega arith)
+            clear (Some f) x g = absurd cc
 
             way : Way s v.0 v.1 → (r : R t) × (f : Option Fault) × (f ≡ None) × (script s q ≡ then' (judge (sense l.kind) f) (script t r))
             way (inl w) =
                 let g : whole w.0 ≡ onward t = (clear v.0.fault (whole w.0) (sym w.2 ∙ here)).1 in
-                let z : ◌≡◌ {A = ℕ} 0 1 = cc in
-                absurd (omega arith)
+                absurd cc
             way (inr w) =
                 let c = clear v.0.fault (onward w.0) (sym w.3 ∙ here) in
                 let g : onward w.0 ≡ onward t = c.1 in
@@ -218,8 +209,8 @@ module _ {S E : Type 0} (turned : S → Kind → Step S E) (R : S → Type 0) (s
             way v.4 (ap (turned s) (sym g.0) ∙ e)
           where
             way : Way s v.0 v.1 → turned s v.0.word ≡ fails UnexpectedWord → ⊥
-            way (inl w) here = unless-expected v.0.fault (whole w.0) (whole-expected w.0) (sym w.2 ∙ here)
-            way (inr w) here = unless-expected v.0.fault (onward w.0) (onward-expected w.0) (sym w.3 ∙ here)
+            way (inl w) here = unless-expected v.0.fault (whole w.0) (λ e. cc) (sym w.2 ∙ here)
+            way (inr w) here = unless-expected v.0.fault (onward w.0) (λ e. cc) (sym w.3 ∙ here)
 
     -- a word before what was read from the next state on
     module _ (s t : S) (l : Lexeme) (e : turned s (sense l.kind) ≡ onward t) (f : Option Fault) (none : f ≡ None) (before : (r : R t) → (q : R s) × (script s q ≡ then' (judge (sense l.kind) f) (script t r))) where
@@ -387,7 +378,7 @@ module _ {S E : Type 0} (turned : S → Kind → Step S E) (R : S → Type 0) (s
         where
           joined : (js : List Judged) (is : List Judged) (fs us after : List Lexeme) → Spells js fs [] → Spells is us after → Spells (js ++ is) (fs ++ us) after
           joined [] is [] us after g i = i
-          joined [] is (f ∷ fs) us after g i = let z : ◌≡◌ {A = ℕ} 0 1 = cc in absurd (omega arith)
+          joined [] is (f ∷ fs) us after g i = absurd cc
           joined (j ∷ js) is [] us after g i = absurd g
           joined (j ∷ js) is (f ∷ fs) us after g i = (g.0, joined js is fs us after g.1 i)
 
@@ -395,16 +386,19 @@ module _ {S E : Type 0} (turned : S → Kind → Step S E) (R : S → Type 0) (s
           rest [] is g = g
           rest (j ∷ js) is g = rest js is g.1
 
+          later : (j : Judged) (js : List Judged) → judged_in (script s h.form) ≡ j ∷ (js ++ h.broken ∷ h.ahead) → Spells js front [] → Faultless js → ((r : R t) × (f : Option Fault) × (f ≡ None) × (script s h.form ≡ then' (judge (sense l.kind) f) (script t r))) → Faulty (script t) front k x
+          later j js g i c w =
+              let both : judge (sense l.kind) w.1 ∷ judged_in (script t w.0) ≡ j ∷ (js ++ h.broken ∷ h.ahead) = sym (ap judged_in w.3) ∙ g in
+              let others : judged_in (script t w.0) ≡ js ++ h.broken ∷ h.ahead = cc in
+              record { form = w.0; here = js; broken = h.broken; ahead = h.ahead; split = others; spelled = i; clear = c; word = h.word; is = h.is }
+
           go : (here : List Judged) → judged_in (script s h.form) ≡ here ++ h.broken ∷ h.ahead → Spells here (l ∷ front) [] → Faultless here → Faulty (script t) front k x
-          go [] g i c = let z : ◌≡◌ {A = ℕ} 0 1 = cc in absurd (omega arith)
+          go [] g i c = absurd cc
           go (j ∷ js) g i c =
               let sensed = subst Sensed g (sensed_within (script s h.form) s h.form refl) in
               let after = rest (h.broken ∷ []) h.ahead (rest (j ∷ js) (h.broken ∷ h.ahead) sensed) in
               let all : Spells (judged_in (script s h.form)) (l ∷ (front ++ k ∷ words_for h.ahead)) [] = subst (λ z. Spells z (l ∷ (front ++ k ∷ words_for h.ahead)) []) (sym g) (i.0, joined js (h.broken ∷ h.ahead) front (k ∷ words_for h.ahead) [] i.1 (h.word, spells_for h.ahead after)) in
-              let w = same_way s t l h.form [] (front ++ k ∷ words_for h.ahead) e all in
-              let both : judge (sense l.kind) w.1 ∷ judged_in (script t w.0) ≡ j ∷ (js ++ h.broken ∷ h.ahead) = sym (ap judged_in w.3) ∙ g in
-              let others : judged_in (script t w.0) ≡ js ++ h.broken ∷ h.ahead = cc in
-              record { form = w.0; here = js; broken = h.broken; ahead = h.ahead; split = others; spelled = i.1; clear = c.1; word = h.word; is = h.is }
+              later j js g i.1 c.1 (same_way s t l h.form [] (front ++ k ∷ words_for h.ahead) e all)
 
       later_reason : (f : Option Fault) → f ≡ None → ((r : R t) → (q : R s) × (script s q ≡ then' (judge (sense l.kind) f) (script t r))) → (front : List Lexeme) (k : Lexeme) (c : Cause) → Reason (script s) (l ∷ front) k c → Reason (script t) front k c
       later_reason f none before front k IllegalWord h = h
@@ -423,7 +417,7 @@ module _ {S E : Type 0} (turned : S → Kind → Step S E) (R : S → Type 0) (s
     begun-on s l front h = go h.here h.split h.spelled h.clear (view s h.form)
       where
         go : (here : List Judged) → judged_in (script s h.form) ≡ here ++ h.ahead → Spells here (l ∷ front) [] → Faultless here → View s (script s h.form) → (((back : List Lexeme) → TakesNone (script s) ((l ∷ front) ++ back) → ⊥)) ⊎ ((t : S) × (turned s (sense l.kind) ≡ onward t) × Begun (script t) front)
-        go [] g i c v = let z : ◌≡◌ {A = ℕ} 0 1 = cc in absurd (omega arith)
+        go [] g i c v = absurd cc
         go (j ∷ js) g i c v = way v.4
           where
             both : v.0 ∷ judged_in v.1 ≡ j ∷ (js ++ h.ahead)
@@ -443,8 +437,8 @@ module _ {S E : Type 0} (turned : S → Kind → Step S E) (R : S → Type 0) (s
 
             spelt : (is : List Judged) (fs back : List Lexeme) → [] ≡ is ++ h.ahead → Spells is fs [] → fs ++ back ≡ back
             spelt [] [] back k m = refl
-            spelt [] (f ∷ fs) back k m = let z : ◌≡◌ {A = ℕ} 0 1 = cc in absurd (omega arith)
-            spelt (i ∷ is) fs back k m = let z : ◌≡◌ {A = ℕ} 0 1 = cc in absurd (omega arith)
+            spelt [] (f ∷ fs) back k m = absurd cc
+            spelt (i ∷ is) fs back k m = absurd cc
 
             way : Way s v.0 v.1 → (((back : List Lexeme) → TakesNone (script s) ((l ∷ front) ++ back) → ⊥)) ⊎ ((t : S) × (turned s (sense l.kind) ≡ onward t) × Begun (script t) front)
             way (inl w) =
@@ -482,10 +476,10 @@ module _ {S E : Type 0} (turned : S → Kind → Step S E) (R : S → Type 0) (s
                 (later_why s x.0 l x.1 n.0 n.1 n.2 front back c w)
 
     same_stop : (c d : Cause) (back left : List Lexeme) → ◌≡◌ {A = Outcome E} (stopped c back) (stopped d left) → (c ≡ d) × (back ≡ left)
-    same_stop c d back left h = let p : c ≡ d = cc in let q : back ≡ left = cc in (p, q)
+    same_stop c d back left h = (cc, cc)
 
     same_taken : (e f : E) (after left : List Lexeme) → taken e after ≡ taken f left → (e ≡ f) × (after ≡ left)
-    same_taken e f after left h = let p : e ≡ f = cc in let q : after ≡ left = cc in (p, q)
+    same_taken e f after left h = (cc, cc)
 
     -- how a reading ends where a word is broken
     broken-run : (s : S) (ls : List Lexeme) (end : ℕ) (c : Cause) (p : ℕ) → TakesNone (script s) ls → Broken (script s) ls end c p → (back : List Lexeme) × (run turned s ls ≡ stopped c back) × (p ≡ place_of end back)

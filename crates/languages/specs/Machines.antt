@@ -23,18 +23,8 @@ unless (Some f) s = fails (cause_of f)
 
 -- the cause that a word is refused with where the form cannot go on with it
 abbrev pub refused_with : Kind → Cause
-refused_with open' = UnexpectedWord
-refused_with close' = UnexpectedWord
-refused_with hat = UnexpectedWord
-refused_with minus = UnexpectedWord
-refused_with arrow = UnexpectedWord
-refused_with open_choice = UnexpectedWord
-refused_with close_choice = UnexpectedWord
-refused_with (test p) = UnexpectedWord
-refused_with (number n w) = UnexpectedWord
-refused_with (variable w) = UnexpectedWord
-refused_with (symbol w) = UnexpectedWord
 refused_with (illegal w) = IllegalWord
+refused_with k = UnexpectedWord
 
 -- a word that no text may have, and a word that cannot continue the form
 abbrev pub refuse : {S E : Type 0} → Kind → Step S E
@@ -43,167 +33,57 @@ refuse k = fails (refused_with k)
 -- `(`, or else another word
 abbrev pub on_open : {S E : Type 0} → Step S E → (Kind → Step S E) → Kind → Step S E
 on_open x f open' = x
-on_open x f close' = f close'
-on_open x f hat = f hat
-on_open x f minus = f minus
-on_open x f arrow = f arrow
-on_open x f open_choice = f open_choice
-on_open x f close_choice = f close_choice
-on_open x f (test p) = f (test p)
-on_open x f (number n w) = f (number n w)
-on_open x f (variable w) = f (variable w)
-on_open x f (symbol w) = f (symbol w)
-on_open x f (illegal w) = f (illegal w)
+on_open x f k = f k
 
 -- `)`, or else another word
 abbrev pub on_close : {S E : Type 0} → Step S E → (Kind → Step S E) → Kind → Step S E
-on_close x f open' = f open'
 on_close x f close' = x
-on_close x f hat = f hat
-on_close x f minus = f minus
-on_close x f arrow = f arrow
-on_close x f open_choice = f open_choice
-on_close x f close_choice = f close_choice
-on_close x f (test p) = f (test p)
-on_close x f (number n w) = f (number n w)
-on_close x f (variable w) = f (variable w)
-on_close x f (symbol w) = f (symbol w)
-on_close x f (illegal w) = f (illegal w)
+on_close x f k = f k
 
 -- `^`, or else another word
 abbrev pub on_hat : {S E : Type 0} → Step S E → (Kind → Step S E) → Kind → Step S E
-on_hat x f open' = f open'
-on_hat x f close' = f close'
 on_hat x f hat = x
-on_hat x f minus = f minus
-on_hat x f arrow = f arrow
-on_hat x f open_choice = f open_choice
-on_hat x f close_choice = f close_choice
-on_hat x f (test p) = f (test p)
-on_hat x f (number n w) = f (number n w)
-on_hat x f (variable w) = f (variable w)
-on_hat x f (symbol w) = f (symbol w)
-on_hat x f (illegal w) = f (illegal w)
+on_hat x f k = f k
 
 -- `-`, or else another word
 abbrev pub on_minus : {S E : Type 0} → Step S E → (Kind → Step S E) → Kind → Step S E
-on_minus x f open' = f open'
-on_minus x f close' = f close'
-on_minus x f hat = f hat
 on_minus x f minus = x
-on_minus x f arrow = f arrow
-on_minus x f open_choice = f open_choice
-on_minus x f close_choice = f close_choice
-on_minus x f (test p) = f (test p)
-on_minus x f (number n w) = f (number n w)
-on_minus x f (variable w) = f (variable w)
-on_minus x f (symbol w) = f (symbol w)
-on_minus x f (illegal w) = f (illegal w)
+on_minus x f k = f k
 
 -- `-->`, or else another word
 abbrev pub on_arrow : {S E : Type 0} → Step S E → (Kind → Step S E) → Kind → Step S E
-on_arrow x f open' = f open'
-on_arrow x f close' = f close'
-on_arrow x f hat = f hat
-on_arrow x f minus = f minus
 on_arrow x f arrow = x
-on_arrow x f open_choice = f open_choice
-on_arrow x f close_choice = f close_choice
-on_arrow x f (test p) = f (test p)
-on_arrow x f (number n w) = f (number n w)
-on_arrow x f (variable w) = f (variable w)
-on_arrow x f (symbol w) = f (symbol w)
-on_arrow x f (illegal w) = f (illegal w)
+on_arrow x f k = f k
 
 -- `<<`, or else another word
 abbrev pub on_open_choice : {S E : Type 0} → Step S E → (Kind → Step S E) → Kind → Step S E
-on_open_choice x f open' = f open'
-on_open_choice x f close' = f close'
-on_open_choice x f hat = f hat
-on_open_choice x f minus = f minus
-on_open_choice x f arrow = f arrow
 on_open_choice x f open_choice = x
-on_open_choice x f close_choice = f close_choice
-on_open_choice x f (test p) = f (test p)
-on_open_choice x f (number n w) = f (number n w)
-on_open_choice x f (variable w) = f (variable w)
-on_open_choice x f (symbol w) = f (symbol w)
-on_open_choice x f (illegal w) = f (illegal w)
+on_open_choice x f k = f k
 
 -- `>>`, or else another word
 abbrev pub on_close_choice : {S E : Type 0} → Step S E → (Kind → Step S E) → Kind → Step S E
-on_close_choice x f open' = f open'
-on_close_choice x f close' = f close'
-on_close_choice x f hat = f hat
-on_close_choice x f minus = f minus
-on_close_choice x f arrow = f arrow
-on_close_choice x f open_choice = f open_choice
 on_close_choice x f close_choice = x
-on_close_choice x f (test p) = f (test p)
-on_close_choice x f (number n w) = f (number n w)
-on_close_choice x f (variable w) = f (variable w)
-on_close_choice x f (symbol w) = f (symbol w)
-on_close_choice x f (illegal w) = f (illegal w)
+on_close_choice x f k = f k
 
 -- a predicate, or else another word
 abbrev pub on_test : {S E : Type 0} → (Predicate → Step S E) → (Kind → Step S E) → Kind → Step S E
-on_test x f open' = f open'
-on_test x f close' = f close'
-on_test x f hat = f hat
-on_test x f minus = f minus
-on_test x f arrow = f arrow
-on_test x f open_choice = f open_choice
-on_test x f close_choice = f close_choice
 on_test x f (test p) = x p
-on_test x f (number n w) = f (number n w)
-on_test x f (variable w) = f (variable w)
-on_test x f (symbol w) = f (symbol w)
-on_test x f (illegal w) = f (illegal w)
+on_test x f k = f k
 
 -- a number, or else another word
 abbrev pub on_number : {S E : Type 0} → (ℤ → Step S E) → (Kind → Step S E) → Kind → Step S E
-on_number x f open' = f open'
-on_number x f close' = f close'
-on_number x f hat = f hat
-on_number x f minus = f minus
-on_number x f arrow = f arrow
-on_number x f open_choice = f open_choice
-on_number x f close_choice = f close_choice
-on_number x f (test p) = f (test p)
 on_number x f (number n w) = x n
-on_number x f (variable w) = f (variable w)
-on_number x f (symbol w) = f (symbol w)
-on_number x f (illegal w) = f (illegal w)
+on_number x f k = f k
 
 -- a variable, or else another word
 abbrev pub on_variable : {S E : Type 0} → (List ℕ → Step S E) → (Kind → Step S E) → Kind → Step S E
-on_variable x f open' = f open'
-on_variable x f close' = f close'
-on_variable x f hat = f hat
-on_variable x f minus = f minus
-on_variable x f arrow = f arrow
-on_variable x f open_choice = f open_choice
-on_variable x f close_choice = f close_choice
-on_variable x f (test p) = f (test p)
-on_variable x f (number n w) = f (number n w)
 on_variable x f (variable w) = x w
-on_variable x f (symbol w) = f (symbol w)
-on_variable x f (illegal w) = f (illegal w)
+on_variable x f k = f k
 
 -- a symbol, or else another word
 abbrev pub on_symbol : {S E : Type 0} → (List ℕ → Step S E) → (Kind → Step S E) → Kind → Step S E
-on_symbol x f open' = f open'
-on_symbol x f close' = f close'
-on_symbol x f hat = f hat
-on_symbol x f minus = f minus
-on_symbol x f arrow = f arrow
-on_symbol x f open_choice = f open_choice
-on_symbol x f close_choice = f close_choice
-on_symbol x f (test p) = f (test p)
-on_symbol x f (number n w) = f (number n w)
-on_symbol x f (variable w) = f (variable w)
 on_symbol x f (symbol w) = x w
-on_symbol x f (illegal w) = f (illegal w)
+on_symbol x f k = f k
 
 -- ---- reading word after word
 

@@ -15,10 +15,11 @@ pub enum Cause {
     IllegalWord = 1,
     // A word that cannot continue a form, or the end of the text.
     UnexpectedWord = 2,
-    // A class that is undeclared or lacks the attribute, or a class, an attribute of one class or a production named twice.
+    // A class that is undeclared or lacks the attribute, or a class, an attribute of one class or a production named
+    // twice.
     WrongName = 3,
-    // A variable first met under a predicate other than `=`, first met in a negated condition and again in a later one, or
-    // in an action and in no unnegated condition.
+    // A variable first met under a predicate other than `=`, first met in a negated condition and again in a later one,
+    // or in an action and in no unnegated condition.
     WrongVariable = 4,
     // A number that names no unnegated condition.
     NoSuchCondition = 5,
@@ -26,8 +27,8 @@ pub enum Cause {
     OverLimit = 6,
 }
 
-// A reader's refusal: why, and where: the first byte of the first broken word, the text's length where the text ends too
-// early, or byte 32,768 of a text that is too long.
+// A reader's refusal: why, and where: the first byte of the first broken word, the text's length where the text ends
+// too early, or byte 32,768 of a text that is too long.
 #[derive(Clone, Copy, Debug)]
 pub struct Refusal {
     pub cause: Cause,

@@ -1,12 +1,9 @@
 // The length of a text, and the word that says which form comes next.
 ghost use Rattle.std.specs.Prelude.{◌≡◌, ◌≤◌, length, MatchResult};
-ghost use Rattle.words.specs.Kinds.{kind_of};
 ghost use Rattle.words.specs.Words.{rest, text_of};
-ghost use Rattle.languages.specs.Senses.{is_open, is_symbol};
 ghost use Rattle.languages.specs.Languages.{longest, TooLong, comes_next};
 
 use crate::refusal::{Cause, Refusal};
-use values::bytes::is;
 use words::text::Words;
 use words::token::Token;
 
@@ -15,7 +12,8 @@ pub const LONGEST_TEXT: usize = 32768;
 
 // Refuses a text that is too long.
 pub fn check_length(words: &Words) -> Result<(), Refusal>
-    ensures { MatchResult result (λ _. length (text_of words.now) ≤ longest) (λ x. TooLong (length (text_of words.now)) x) }
+    ensures { MatchResult result (λ _. length (text_of words.now) ≤ longest)
+        (λ x. TooLong (length (text_of words.now)) x) }
 {
     if words.text().len() > LONGEST_TEXT {
         return Err(Refusal {
@@ -31,22 +29,8 @@ pub fn form_comes(words: &Words, head: &[u8]) -> bool
     ensures { result ≡ comes_next head.now (rest words.now) }
 {
     let mut ahead = *words;
-    match (ahead.next(), ahead.next()) {
-        (Some(first), Some(second)) => is_open(&first.token) && is_symbol(&second.token, head),
-        _ => false,
-    }
-}
-
-// Whether a word is `(`.
-fn is_open(token: &Token) -> bool
-    ensures { result ≡ is_open (kind_of token.now) }
-{
-    matches!(token, Token::Open)
-}
-
-// Whether a word is this symbol.
-fn is_symbol(token: &Token, symbol: &[u8]) -> bool
-    ensures { result ≡ is_symbol symbol.now (kind_of token.now) }
-{
-    matches!(token, Token::Symbol(word) if is(word, symbol))
+    let first = ahead.next();
+    let second = ahead.next();
+    matches!(first, Some(word) if matches!(word.token, Token::Open))
+        && matches!(second, Some(word) if matches!(word.token, Token::Symbol(symbol) if symbol == head))
 }

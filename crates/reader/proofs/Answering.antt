@@ -1,5 +1,5 @@
 -- From the outcome of a reading to the answers of the calls. Assumes nothing.
-use Rattle.std.proofs.Common.{◌≡◌, ℕ, ◌<◌, ◌≤◌, Bool, true, false, cond, not, ◌||◌, leb, List, [], ◌∷◌, ◌++◌, length, set, is_some, Some, None, Err, Option, unwrap_or, sym, refl, ap, ◌∙◌, subst, inr, arith}
+use Rattle.std.proofs.Common.{◌≡◌, ℕ, ◌<◌, ◌≤◌, Bool, true, false, cond, not, ◌||◌, leb, List, [], ◌∷◌, ◌++◌, length, set, is_some, Some, None, Err, Option, unwrap_or, sym, refl, ap, ◌∙◌, subst, inr}
 use Rattle.std.proofs.lemmas.Bool.{cond-false}
 use Rattle.words.specs.declared.text.Words.{Words}
 use Rattle.words.specs.Words.{Lexeme, rest, text_of}
@@ -67,13 +67,13 @@ class-new : (cs : List Declared) (o : Option ℕ) → cond (is_some (class_at cs
 class-new cs None = λ e. absurd (full (leb 16 (length cs)) e)
   where
     full : (d : Bool) → cond (d || true) (Some over_limit) None ≡ None → ⊥
-    full true e = let z : ◌≡◌ {A = ℕ} 0 1 = cc in omega arith
-    full false e = let z : ◌≡◌ {A = ℕ} 0 1 = cc in omega arith
+    full true e = cc
+    full false e = cc
 class-new cs (Some i) = by (is_some (find_class cs i)) (leb 16 (length cs))
   where
     by : (b d : Bool) → cond b (Some wrong_name) (cond (d || false) (Some over_limit) None) ≡ None → (b ≡ false) × (d ≡ false)
-    by true d e = let z : ◌≡◌ {A = ℕ} 0 1 = cc in absurd (omega arith)
-    by false true e = let z : ◌≡◌ {A = ℕ} 0 1 = cc in absurd (omega arith)
+    by true d e = absurd cc
+    by false true e = absurd cc
     by false false e = (refl, refl)
 
 new_class_lem : (cs : List Declared) (ns ms : List (List ℕ)) (ls after : List Lexeme) (d : Declared) → Takes (declaration_script cs ns) ls (declares d, ms) after → after_declare cs d ≡ cs ++ d ∷ []

@@ -1,5 +1,5 @@
 -- The attributes of a declaration by their words and by their numbers. Assumes nothing.
-use Rattle.std.proofs.Common.{◌≡◌, ℕ, suc, ◌+◌, Bool, true, false, cond, not, ◌||◌, eqb, leb, List, [], ◌∷◌, ◌++◌, length, is_some, Some, None, Option, unwrap_or, sym, refl, ap, ◌∙◌, arith, eq-eqb, eqb-true}
+use Rattle.std.proofs.Common.{◌≡◌, ℕ, suc, ◌+◌, Bool, true, false, cond, not, ◌||◌, eqb, leb, List, [], ◌∷◌, ◌++◌, length, is_some, Some, None, Option, unwrap_or, sym, refl, ap, ◌∙◌, eq-eqb, eqb-true}
 use Rattle.std.proofs.lemmas.Slice.Eq.{bytes_eq-Decides}
 use Rattle.std.specs.Str.{bytes_eq}
 use Rattle.values.specs.Firsts.{first_from}
@@ -74,8 +74,7 @@ not_among ns (v ∷ ws) (j ∷ is) w m e = go (bytes_eq v w) refl (not_among ns 
     go true s f =
         let h : answer_intern ns w ≡ Some j = ap (answer_intern ns) (sym ((bytes_eq-Decides v w).0 s)) ∙ answer_named ns v j m.0 in
         let both : None ≡ Some j = sym e ∙ h in
-        let z : ◌≡◌ {A = ℕ} 0 1 = cc in
-        absurd (omega arith)
+        absurd cc
     go false s f = f
 
 -- an attribute breaks the same rule by its word and by its number
@@ -94,9 +93,9 @@ has-number ns seen w = go (answer_intern ns w) (among w seen) (leb 15 (length se
   where
     go : (o : Option ℕ) (b d : Bool) → cond b (Some wrong_name) (cond (d || not (is_some o)) (Some over_limit) None) ≡ None → o ≡ Some (unwrap_or o 0)
     go (Some i) b d e = refl
-    go None true d e = let z : ◌≡◌ {A = ℕ} 0 1 = cc in absurd (omega arith)
-    go None false true e = let z : ◌≡◌ {A = ℕ} 0 1 = cc in absurd (omega arith)
-    go None false false e = let z : ◌≡◌ {A = ℕ} 0 1 = cc in absurd (omega arith)
+    go None true d e = absurd cc
+    go None false true e = absurd cc
+    go None false false e = absurd cc
 
 pub matched_more : (c : Declared) (ns seen : List (List ℕ)) (w : List ℕ) → Matched ns seen c.attributes → attribute_fault ns seen w ≡ None → Matched (after_intern ns w) (seen ++ w ∷ []) (c.attributes ++ numbered ns w ∷ [])
 matched_more c ns seen w m e =

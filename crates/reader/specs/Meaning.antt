@@ -7,6 +7,7 @@ use Rattle.values.specs.Elements.{fields_of}
 use Rattle.rules.specs.Attributes.{Declared, declared}
 use Rattle.reader.specs.declared.form.Command.{Command}
 use Rattle.reader.specs.declared.form.Command.TheVariants.{Make, Remove, RemoveAll, ListMemory}
+use Rattle.reader.specs.declared.form.Phase.{Phase}
 use Rattle.reader.specs.declared.form.Taken.{Taken}
 use Rattle.reader.specs.declared.form.Taken.TheVariants.{Declaration, Commanded}
 use Rattle.languages.specs.declared.refusal.Cause.{Cause}
@@ -19,7 +20,7 @@ use Rattle.reader.specs.declared.state.Step.{Step as Turn}
 use Rattle.reader.specs.declared.state.Step.TheVariants.{Onward, Whole}
 use Rattle.reader.specs.Forms.{Act, makes, removes, removes_all, lists, Entry, declares, commands, Asked}
 use Rattle.reader.specs.Machine.{State, opening, head, class_name, attributes, element_class, pairs, attribute, field_value, tag, closing, Move, turned}
-use Rattle.languages.specs.Machines.{onward, whole, fails, Outcome, taken, stopped, place_of}
+use Rattle.languages.specs.Machines.{onward, whole, fails, Outcome, taken, stopped, run, place_of}
 
 -- what a command asks for
 abbrev pub act_of : Command → Act
@@ -56,10 +57,14 @@ Steps ns (Err c) ms t = (fails c ≡ t) × Grows ns ms
 abbrev pub Turns : List Declared → List (List ℕ) → Reading → Kind → Result Turn Cause → List (List ℕ) → Type 0
 Turns cs ns s k r ms = Steps ns r ms (turned cs (state_of ns s) (sense k))
 
--- reading on from the words `before` with the names ns: the answer r is the outcome o, the names are then ms and only added to,
--- and the words then left are those of `after`, of the same text
-abbrev pub Ran : Words → List (List ℕ) → Result Taken Refusal → List (List ℕ) → Words → Outcome Asked → Type 0
-Ran before ns (Ok form) ms after o = (o ≡ taken (entry_of form, ms) (rest after)) × Grows ns ms × (text_of after ≡ text_of before)
-Ran before ns (Err x) ms after o =
+-- a reading from the words `before` with the names ns ends with the outcome o: the code answers r, the names are then ms and only added
+-- to, and the words then left are those of `after`, of the same text
+abbrev pub Ends : Outcome Asked → Words → List (List ℕ) → Result Taken Refusal → List (List ℕ) → Words → Type 0
+Ends o before ns (Ok form) ms after = (o ≡ taken (entry_of form, ms) (rest after)) × Grows ns ms × (text_of after ≡ text_of before)
+Ends o before ns (Err x) ms after =
     ((back : List Lexeme) × (o ≡ stopped x.cause back) × (x.place ≡ place_of (length (text_of before)) back))
     × Grows ns ms × (text_of after ≡ text_of before)
+
+-- the same, of reading a form of a phase
+abbrev pub Ran : Phase → List Declared → Words → List (List ℕ) → Result Taken Refusal → List (List ℕ) → Words → Type 0
+Ran ph cs before ns r ms after = Ends (run (turned cs) (opening ph ns) (rest before)) before ns r ms after

@@ -4,8 +4,6 @@ ghost use Rattle.words.specs.Words.{rest, text_of};
 ghost use Rattle.values.specs.Naming.{held};
 ghost use Rattle.rules.specs.Bases.{declaring_classes, sealed_classes};
 ghost use Rattle.rules.specs.Declarations.{classes_of};
-ghost use Rattle.reader.specs.Machine.{opening, turned};
-ghost use Rattle.languages.specs.Machines.{run};
 ghost use Rattle.reader.specs.Meaning.{Ran};
 ghost use Rattle.reader.specs.Settled.{Settled};
 ghost use Rattle.reader.specs.Reading.{Reads, ReadsDeclaration, ReadsCommand};
@@ -26,7 +24,7 @@ fn read_words(
     names: &mut Names,
     classes: &Classes,
 ) -> Result<Taken, Refusal>
-    ensures { Ran words.old (held names.old) result (held names.new) words.new (run (turned (classes_of classes.now)) (opening phase (held names.old)) (rest words.old)) }
+    ensures { Ran phase (classes_of classes.now) words.old (held names.old) result (held names.new) words.new }
 {
     let end = words.text().len();
     let mut state = State::Opening(phase);
@@ -73,7 +71,8 @@ pub fn read_declaration(
     names: &mut Names,
     base: &mut Declaring,
 ) -> Result<bool, Refusal>
-    ensures reads { ReadsDeclaration (length (text_of words.old)) (declaring_classes base.old) (held names.old) (rest words.old) result (declaring_classes base.new) (held names.new) (rest words.new) }
+    ensures reads { ReadsDeclaration (length (text_of words.old)) (declaring_classes base.old) (held names.old)
+        (rest words.old) result (declaring_classes base.new) (held names.new) (rest words.new) }
     ensures text { text_of words.new ≡ text_of words.old }
 {
     check_length(words)?;
@@ -92,7 +91,8 @@ pub fn read_command(
     names: &mut Names,
     base: &Sealed,
 ) -> Result<Option<Command>, Refusal>
-    ensures reads { ReadsCommand (length (text_of words.old)) (sealed_classes base.now) (held names.old) (rest words.old) result (held names.new) (rest words.new) }
+    ensures reads { ReadsCommand (length (text_of words.old)) (sealed_classes base.now) (held names.old)
+        (rest words.old) result (held names.new) (rest words.new) }
     ensures text { text_of words.new ≡ text_of words.old }
 {
     check_length(words)?;

@@ -5,7 +5,8 @@ ghost use Rattle.values.specs.Elements.{fields_of};
 ghost use Rattle.values.specs.Naming.{held};
 ghost use Rattle.rules.specs.Attributes.{declared};
 ghost use Rattle.rules.specs.Declarations.{classes_of};
-ghost use Rattle.reader.specs.declared.state.State.TheVariants.{Opening, Head, ClassName, Attributes, ElementClass, Pairs, Attribute, FieldValue, Tag, Closing};
+ghost use Rattle.reader.specs.declared.state.State.TheVariants.{Opening, Head, ClassName, Attributes};
+ghost use Rattle.reader.specs.declared.state.State.TheVariants.{ElementClass, Pairs, Attribute, FieldValue, Tag, Closing};
 ghost use Rattle.reader.specs.Meaning.{Turns};
 
 use crate::form::{Command, Phase, Taken};
@@ -131,17 +132,12 @@ impl Filling {
     fn at_value(self, field: Place, token: &Token, names: &mut Names) -> Result<Step, Cause>
         ensures { Turns [] (held names.old) (FieldValue self field) (kind_of token.now) result (held names.new) }
     {
-        match token {
-            Token::Number(n, _) => Ok(Step::Onward(State::Pairs(self.with(
-                field,
-                Value::Number(*n),
-            )))),
-            Token::Symbol(word) => {
-                let number = names.intern(word).ok_or(Cause::OverLimit)?;
-                Ok(Step::Onward(State::Pairs(self.with(field, Value::Symbol(number)))))
-            }
-            _ => Err(unexpected(token)),
-        }
+        let value = match token {
+            Token::Number(n, _) => Value::Number(*n),
+            Token::Symbol(word) => Value::Symbol(names.intern(word).ok_or(Cause::OverLimit)?),
+            _ => return Err(unexpected(token)),
+        };
+        Ok(Step::Onward(State::Pairs(self.with(field, value))))
     }
 
     // One field more is set.

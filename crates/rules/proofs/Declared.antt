@@ -1,9 +1,8 @@
 -- Looking up attributes, classes and rules. Assumes nothing.
-use Rattle.std.proofs.Common.{◌≡◌, ℕ, ◌+◌, ◌≤◌, Bool, true, false, cond, ◌||◌, eqb, List, [], ◌∷◌, map, length, Some, refl, ap, arith}
+use Rattle.std.proofs.Common.{◌≡◌, ℕ, ◌≤◌, Bool, true, false, cond, ◌||◌, eqb, List, [], ◌∷◌, map, length, Some, refl, ap, arith}
 use Rattle.std.proofs.lemmas.List.{length-take}
-use Rattle.std.specs.List.{position_from, find, list_any}
+use Rattle.std.specs.List.{find, list_any}
 use Rattle.std.specs.Option.{option_map}
-use Rattle.values.specs.Firsts.{first_from}
 use Rattle.rules.specs.Attributes.{declared}
 use Rattle.rules.specs.Declarations.{find_class}
 use Rattle.rules.specs.Ruled.{rules_of}
@@ -14,15 +13,6 @@ use Rattle.rules.specs.declared.rule.Rule.{Rule}
 -- no class has more than fifteen attributes
 pub fifteen : (c : Class) → length (declared c).attributes ≤ 15
 fifteen c = omega (arith, c.attributes.short, length-take c.attributes.len c.attributes.bytes)
-
--- a place counted from one more
-pub counted_on : {X : Type 0} (test : X → Bool) (n : ℕ) (xs : List X) → option_map (λ p. p + 1) (position_from test n xs) ≡ first_from test (n + 1) xs
-counted_on test n [] = refl
-counted_on test n (x ∷ xs) = go (test x) (counted_on test (n + 1) xs)
-  where
-    go : (b : Bool) → option_map (λ p. p + 1) (position_from test (n + 1) xs) ≡ first_from test (n + 1 + 1) xs → option_map (λ p. p + 1) (cond b (Some n) (position_from test (n + 1) xs)) ≡ cond b (Some (n + 1)) (first_from test (n + 1 + 1) xs)
-    go true e = refl
-    go false e = e
 
 -- looking through the code's classes is looking through the declared ones
 pub found-class : (cs : List Class) (n : ℕ) → option_map declared (find (λ c. eqb c.name n) cs) ≡ find_class (map declared cs) n

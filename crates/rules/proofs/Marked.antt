@@ -1,9 +1,8 @@
 -- The marks of the code and the variables that were met. Assumes nothing.
 use Rattle.std.proofs.Common.{◌≡◌, ℕ, ◌+◌, ◌<◌, ◌≤◌, Bool, true, false, cond, ◌||◌, eqb, List, [], ◌∷◌, ◌++◌, length, get_or, set, vec_items, sym, refl, ap, ◌∙◌, arith, length-set, get_or-set_other, get_or-set_same, eqb-true}
-use borrow.Author.Tests.{eqb-false}
-use lib.ListN.{get_or-replicate}
-use Rattle.std.proofs.lemmas.List.{append-nil}
-use Rattle.std.proofs.lemmas.Bool.{cond_both}
+use Rattle.std.proofs.Math.Bool.{or-false, or-true, or_assoc}
+use Rattle.std.proofs.lemmas.List.{append-nil, get_or-replicate}
+use Rattle.std.proofs.lemmas.Bool.{cond_both, eqb-false}
 use Rattle.values.specs.declared.value.Value.{Value}
 use Rattle.rules.specs.Carried.{carried, sum_along}
 use Rattle.rules.specs.Fitness.{has, test_variables, also_test}
@@ -20,21 +19,9 @@ use Rattle.rules.specs.declared.condition.Condition.{Condition as RustCondition}
 abbrev Agrees : List Bool → List ℕ → Type 0
 Agrees ms met = (length ms ≡ 16) × ((y : ℕ) → y < 16 → get_or ms y false ≡ has met y)
 
-or_false : (b : Bool) → (b || false) ≡ b
-or_false true = refl
-or_false false = refl
-
-or_assoc : (a b c : Bool) → (a || (b || c)) ≡ ((a || b) || c)
-or_assoc true b c = refl
-or_assoc false b c = refl
-
-or_true : (b : Bool) → (b || true) ≡ true
-or_true true = refl
-or_true false = refl
-
 has_more : (ks : List ℕ) (x y : ℕ) → has (ks ++ x ∷ []) y ≡ (has ks y || eqb x y)
-has_more [] x y = or_false (eqb x y)
-has_more (k ∷ ks) x y = ap (λ b. eqb k y || b) (has_more ks x y) ∙ or_assoc (eqb k y) (has ks y) (eqb x y)
+has_more [] x y = or-false (eqb x y)
+has_more (k ∷ ks) x y = ap (λ b. eqb k y || b) (has_more ks x y) ∙ sym (or_assoc (eqb k y) (has ks y) (eqb x y))
 
 -- one variable more is met
 mark_agrees : (ms : List Bool) (met : List ℕ) (x : ℕ) → x < 16 → Agrees ms met → Agrees (set ms x true) (met ++ x ∷ [])
@@ -46,11 +33,11 @@ mark_agrees ms met x h a = (length-set ms x true ∙ a.0, λ y g. at y g (eqb x 
         let inside : x < length ms = omega (arith, a.0) in
         ap (λ z. get_or (set ms x true) z false) (sym same)
         ∙ get_or-set_same ms x true false inside
-        ∙ sym (has_more met x y ∙ ap (λ b. has met y || b) e ∙ or_true (has met y))
+        ∙ sym (has_more met x y ∙ ap (λ b. has met y || b) e ∙ or-true (has met y))
     at y g false e =
         get_or-set_other ms x y true false (λ s. eqb-false x y e (sym s))
         ∙ a.1 y g
-        ∙ sym (has_more met x y ∙ ap (λ b. has met y || b) e ∙ or_false (has met y))
+        ∙ sym (has_more met x y ∙ ap (λ b. has met y || b) e ∙ or-false (has met y))
 
 -- none more
 same_agrees : (ms : List Bool) (met : List ℕ) → Agrees ms met → Agrees ms (met ++ [])

@@ -8,7 +8,7 @@ pub const MOST_CLASSES: usize = 16;
 // At most 16 classes, in the order of their declaration.
 #[derive(Drop)]
 pub struct Classes {
-    list: Few<Class, 16>,
+    list: Few<Class, MOST_CLASSES>,
 }
 
 mod methods;

@@ -82,10 +82,8 @@ fn action_settings(action: &Action) -> usize
     ensures { result ≡ action_settings (action_of action.now) }
 {
     match action {
-        Action::Make(_, settings) => settings.len(),
-        Action::Modify(_, settings) => settings.len(),
-        Action::Remove(_) => 0,
-        Action::Halt => 0,
+        Action::Make(_, settings) | Action::Modify(_, settings) => settings.len(),
+        Action::Remove(_) | Action::Halt => 0,
     }
 }
 

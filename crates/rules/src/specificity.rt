@@ -15,11 +15,11 @@ fn choice_counts(constants: &[Value]) -> usize
     constants.len()
 }
 
-// What a variable under no predicate counts: one if it was met before.
+// What a variable under no predicate counts: one if it was met before. Variables have numbers below 16, so a mark for each is a set.
 fn variable_counts(met: &[bool; 16], variable: Place) -> usize
     ensures { result ≡ variable_counts met.now variable.number }
 {
-    if met[variable.number as usize] { 1 } else { 0 }
+    usize::from(met[variable.number as usize])
 }
 
 // What a test counts, given the variables met before.
@@ -27,10 +27,8 @@ fn test_counts(met: &[bool; 16], test: &Test) -> usize
     ensures { result ≡ marked_test_counts met.now (test_of test.now) }
 {
     match test {
-        Test::Constant(_) => 1,
+        Test::Constant(_) | Test::Compare(_, _) | Test::CompareVariable(_, _) => 1,
         Test::Variable(variable) => variable_counts(met, *variable),
-        Test::Compare(_, _) => 1,
-        Test::CompareVariable(_, _) => 1,
         Test::Choice(constants) => choice_counts(constants),
     }
 }
@@ -47,15 +45,14 @@ fn mark_test(met: &mut [bool; 16], test: &Test)
     ensures { met.new ≡ mark_test met.old (test_of test.now) }
 {
     match test {
-        Test::Constant(_) => {}
-        Test::Variable(variable) => mark_variable(met, *variable),
-        Test::Compare(_, _) => {}
-        Test::CompareVariable(_, variable) => mark_variable(met, *variable),
-        Test::Choice(_) => {}
+        Test::Variable(variable) | Test::CompareVariable(_, variable) => mark_variable(
+            met, *variable,
+        ),
+        Test::Constant(_) | Test::Compare(_, _) | Test::Choice(_) => {}
     }
 }
 
-// What tests count in their order; the variable of each is met for those behind it.
+// What tests count in their order; the variable of each is met for those behind it. So this is a loop: a chain may not change the marks.
 fn tests_count(met: &mut [bool; 16], tests: &[FieldTest]) -> usize
     requires { marked_tests_count met.old (field_tests_of tests.now) < 2 ^ 64 }
     ensures value { result ≡ marked_tests_count met.old (field_tests_of tests.now) }

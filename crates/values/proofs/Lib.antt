@@ -1,4 +1,3 @@
 pub mod Finding
 pub mod Lookups
-pub mod Mapped
 pub mod Numbering

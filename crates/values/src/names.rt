@@ -1,5 +1,5 @@
 // The names of all symbols, numbered by first use.
-ghost use Rattle.std.specs.Prelude.{◌≡◌, ◌<◌, ◌≤◌, [], map, vec_len, vec_capacity, codes, slice_index_or};
+ghost use Rattle.std.specs.Prelude.{◌≡◌, [], map, codes, slice_index_or};
 ghost use Rattle.values.specs.Spelling.{spelling, Distinct};
 
 use crate::name::Name;

@@ -12,7 +12,8 @@ pub enum Value {
 pub const NIL: Value = Value::Symbol(0);
 
 impl Value {
-    // Whether the two are one value: the same kind and the same content. As `==`, with a clause that proofs of callers cite.
+    // Whether the two are one value: the same kind and the same content.
+    // As `==`, with a clause that proofs of callers cite.
     pub fn same(self, other: Value) -> bool
         ensures { Decides result (self ≡ other) }
     {

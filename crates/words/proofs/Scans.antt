@@ -2,14 +2,29 @@
 use Rattle.std.proofs.Common.{◌≡◌, ℕ, ◌+◌, ◌-◌, ◌<◌, ◌≤◌, List, [], ◌∷◌, ◌++◌, length, get_or, take, drop, sym, ap, ◌∙◌, arith, length-drop, get_or-drop}
 use Rattle.std.proofs.lemmas.List.{take_more, drop_more}
 use Rattle.words.specs.Bytes.{class_of}
-use Rattle.words.specs.Started.{begun}
 use Rattle.words.specs.declared.text.turn.Turn.{Turn}
 use Rattle.words.specs.declared.text.turn.Turn.TheVariants.{Pass, Single, Ended}
-use Rattle.words.specs.Words.{plain, single, moved, turned, Mode, between, within, comment, ends, goes, scan, left}
+use Rattle.words.specs.Words.{plain, single, moved, turned, Mode, between, within, comment, ends, goes, scan, Lexeme}
 use Rattle.words.specs.declared.bytes.Class.{Class}
 use Rattle.words.specs.declared.bytes.Class.TheVariants.{Blank, Feed, Mark, Semicolon, Plain, Strange}
 use Rattle.words.specs.declared.text.State.{State}
 use Rattle.words.specs.declared.text.State.TheVariants.{Between, Within, Comment}
+
+-- the mode of a reader that stands at a place
+abbrev pub mode : List ℕ → ℕ → State → Mode
+mode text at Between = between
+mode text at (Within start) = within start (take (at - start) (drop start text))
+mode text at Comment = comment
+
+-- the words of a text that are left at a place, in a state
+abbrev pub left : List ℕ → ℕ → State → List Lexeme
+left text at state = scan (mode text at state) at (drop at text)
+
+-- how far the reader has come at least: past the first byte of the plain word that it is in
+abbrev pub begun : State → ℕ
+begun Between = 0
+begun (Within start) = start + 1
+begun Comment = 0
 
 -- a part of a text, and one byte more
 pub one_more : (t : List ℕ) (s p : ℕ) → s ≤ p → p < length t → take (p + 1 - s) (drop s t) ≡ take (p - s) (drop s t) ++ get_or t p 0 ∷ []

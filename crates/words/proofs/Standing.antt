@@ -11,7 +11,7 @@ use Rattle.words.specs.Words.{Lexeme, plain, single, Mode, between, within, comm
 use Rattle.words.specs.Law.{Is, Commented, WordAt, Has, Rising, AreWords}
 use Rattle.words.proofs.Scans.{one_more, one_byte}
 
--- Classes. No byte has two.
+-- Classes. No byte has two. They are told apart by numbers, so that `tt` shows at each use that two classes differ.
 abbrev code : Class → ℕ
 code Blank = 0
 code Feed = 1

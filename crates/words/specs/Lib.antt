@@ -1,5 +1,4 @@
 pub mod Bytes
-pub mod Started
 pub mod Numbers
 pub mod Kinds
 pub mod Words

@@ -1,5 +1,5 @@
 -- The words of a rule text. Assumes nothing.
-use Rattle.std.specs.Prelude.{◌≡◌, ℕ, ◌+◌, ◌-◌, List, [], ◌∷◌, ◌++◌, take, drop, Some, None, Option}
+use Rattle.std.specs.Prelude.{◌≡◌, ℕ, ◌+◌, List, [], ◌∷◌, ◌++◌, drop, Some, None, Option}
 use Rattle.words.specs.Bytes.{class_of}
 use Rattle.words.specs.declared.bytes.Class.{Class}
 use Rattle.words.specs.declared.bytes.Class.TheVariants.{Blank, Feed, Mark, Semicolon, Plain, Strange}
@@ -118,16 +118,6 @@ turned (Within s) Semicolon = Ended s
 turned (Within s) Plain = Pass
 turned (Within s) Strange = Ended s
 turned Comment c = Pass
-
--- the mode of a reader that stands at a place
-abbrev pub mode : List ℕ → ℕ → State → Mode
-mode text at Between = between
-mode text at (Within start) = within start (take (at - start) (drop start text))
-mode text at Comment = comment
-
--- the words of a text that are left at a place, in a state
-abbrev pub left : List ℕ → ℕ → State → List Lexeme
-left text at state = scan (mode text at state) at (drop at text)
 
 -- the text that the reader reads
 abbrev pub text_of : Words → List ℕ

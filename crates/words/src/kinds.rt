@@ -1,6 +1,7 @@
 // What a plain word is.
 ghost use Rattle.std.specs.Prelude.{◌≡◌, IfSome};
-ghost use Rattle.words.specs.Kinds.{kind_of, spelled, predicate, pointed, is_variable, predicate_of, named_kind, word_kind};
+ghost use Rattle.words.specs.Kinds.{kind_of, spelled, predicate, pointed, is_variable};
+ghost use Rattle.words.specs.Kinds.{predicate_of, named_kind, word_kind};
 
 use crate::numbers::{NotANumber, read_number};
 use crate::token::{Predicate, Token};

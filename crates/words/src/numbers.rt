@@ -39,6 +39,7 @@ fn without_period(word: &[u8]) -> &[u8]
 }
 
 // The number that digits write, but at most `CAP`; none where a byte is no digit.
+// By a `try_fold` it is no plainer: a closure has to be safe at every value, so that its sums would have to saturate.
 fn magnitude(digits: &[u8]) -> Option<u64>
     ensures { result ≡ capped (decimal 0 digits.now) }
 {

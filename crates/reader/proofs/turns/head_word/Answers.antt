@@ -1,6 +1,4 @@
-use Rattle.std.proofs.Common.{rules, ◌≡◌, codes, arith, sym, subst}
-use Rattle.reader.specs.Machine.{head_word}
-use Rattle.reader.specs.Meaning.{Steps}
+use Rattle.std.proofs.Common.{rules, codes, arith}
 use Rattle.languages.proofs.Literals.{is-literal}
 use Rattle.reader.proofs.turns.head_word.Goals as goal
 

@@ -1,6 +1,6 @@
 use Rattle.std.proofs.Common.{◌≡◌, ◌≤◌}
-use Rattle.words.specs.Started.{begun}
-use Rattle.words.specs.Words.{rest, text_of, left}
+use Rattle.words.specs.Words.{rest, text_of}
+use Rattle.words.proofs.Scans.{left, begun}
 use Rattle.words.proofs.text.Words.next.Given as goal
 
 -- the bytes that are left decide
