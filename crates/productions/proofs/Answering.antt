@@ -11,13 +11,13 @@ use Rattle.productions.specs.declared.draft.Draft.{Draft}
 use Rattle.productions.specs.declared.trouble.Trouble.{Trouble}
 use Rattle.productions.specs.declared.trouble.Trouble.TheVariants.{Refused, NoMemory}
 use Rattle.productions.specs.Machine.{at_opening, turned}
-use Rattle.productions.specs.Reading.{produces_next, ReadsProduction, Ran, Drafts}
+use Rattle.productions.specs.Reading.{produces_next, ReadsProduction, Ran, Drafted}
 use Rattle.productions.specs.Spelling.{production_script}
 use Rattle.productions.proofs.Rests.{none, broken}
 use Rattle.productions.proofs.Fit.{Fit, fit}
 
 -- a draft that was not read, where the names and the words are as they were
-pub not_drafted : (cs : List Declared) (rs : List Rule) (ns ms os : List (List ℕ)) (ls after left : List Lexeme) (end : ℕ) (d : Draft) (t : Trouble) → Ran end (Err t) ms d after (run (turned cs rs) (at_opening ns) ls) → os ≡ ns → left ≡ ls → Drafts end cs rs ns ls (Err t) os left
+pub not_drafted : (cs : List Declared) (rs : List Rule) (ns ms os : List (List ℕ)) (ls after left : List Lexeme) (end : ℕ) (d : Draft) (t : Trouble) → Ran end (Err t) ms d after (run (turned cs rs) (at_opening ns) ls) → os ≡ ns → left ≡ ls → Drafted end cs rs ns ls (Err t) os left
 not_drafted cs rs ns ms os ls after left end d (Refused x) r n a =
     (n, a, none cs rs ns ls r.0 x.cause r.1, broken cs rs ns ls r.0 end x.cause x.place r.1 r.2)
 not_drafted cs rs ns ms os ls after left end d NoMemory r n a = (n, a)

@@ -1,6 +1,7 @@
 -- What the call that reads a production answers. Assumes nothing.
-use Rattle.std.specs.Prelude.{◌≡◌, ℕ, ◌≤◌, Bool, true, false, ◌⊎◌, List, [], ◌∷◌, ◌++◌, Ok, Err, codes, Result}
-use Rattle.words.specs.Words.{Lexeme}
+use Rattle.std.specs.Prelude.{◌≡◌, ℕ, ◌≤◌, Bool, true, false, ◌⊎◌, List, [], ◌∷◌, ◌++◌, Ok, Err, codes, Result, length}
+use Rattle.words.specs.Words.{Lexeme, rest, text_of}
+use Rattle.words.specs.declared.text.Words.{Words}
 use Rattle.rules.specs.Attributes.{Declared}
 use Rattle.rules.specs.Rules.{Rule}
 use Rattle.languages.specs.Languages.{Takes, TakesNone, Broken, OneAnswer, longest, TooLong, comes_next}
@@ -43,13 +44,17 @@ Ran end (Ok _) ms d after o = o ≡ taken (rule_read (sofar_of ms d), ms) after
 Ran end (Err (Refused x)) ms d after o = (back : List Lexeme) × (o ≡ stopped x.cause back) × (x.place ≡ place_of end back)
 Ran end (Err NoMemory) ms d after o = Unit {0}
 
--- and names were only added to ns
-abbrev pub Reads : ℕ → Result (Unit {0}) Trouble → List (List ℕ) → List (List ℕ) → Draft → List Lexeme → Outcome Asked → Type 0
-Reads end r ns ms d after o = Ran end r ms d after o × Grows ns ms
+-- and the names, which were ns, are only added to, and the words left are of the same text as those before
+abbrev pub Reads : Words → List (List ℕ) → Result (Unit {0}) Trouble → List (List ℕ) → Draft → Words → Outcome Asked → Type 0
+Reads before ns r ms d after o = Ran (length (text_of before)) r ms d (rest after) o × Grows ns ms × (text_of after ≡ text_of before)
 
--- reading a draft: the answer, and the names and the words left then
-abbrev pub Drafts : ℕ → List Declared → List Rule → List (List ℕ) → List Lexeme → Result Draft Trouble → List (List ℕ) → List Lexeme → Type 0
-Drafts end cs rs ns ls (Ok d) ms after = Takes (production_script cs rs ns) ls (rule_read (sofar_of ms d), ms) after
-Drafts end cs rs ns ls (Err (Refused x)) ms after =
+-- a draft is the answer for the words ls of a text of `end` bytes, and the names and the words left then
+abbrev pub Drafted : ℕ → List Declared → List Rule → List (List ℕ) → List Lexeme → Result Draft Trouble → List (List ℕ) → List Lexeme → Type 0
+Drafted end cs rs ns ls (Ok d) ms after = Takes (production_script cs rs ns) ls (rule_read (sofar_of ms d), ms) after
+Drafted end cs rs ns ls (Err (Refused x)) ms after =
     (ms ≡ ns) × (after ≡ ls) × TakesNone (production_script cs rs ns) ls × Broken (production_script cs rs ns) ls end x.cause x.place
-Drafts end cs rs ns ls (Err NoMemory) ms after = (ms ≡ ns) × (after ≡ ls)
+Drafted end cs rs ns ls (Err NoMemory) ms after = (ms ≡ ns) × (after ≡ ls)
+
+-- reading a draft: the answer, and the names and the words left then, which are of the same text as those before
+abbrev pub Drafts : List Declared → List Rule → Words → List (List ℕ) → Result Draft Trouble → List (List ℕ) → Words → Type 0
+Drafts cs rs before ns r ms after = Drafted (length (text_of before)) cs rs ns (rest before) r ms (rest after) × (text_of after ≡ text_of before)

@@ -118,6 +118,7 @@ ordinal (negsuc n) = 0
 abbrev pub unnumbered : List Condition → ℤ → Option Fault
 unnumbered cs n = cond (names_condition cs (ordinal n)) None (Some no_such_condition)
 
+-- and so among those that were read
 abbrev pub ordinal_fault : Sofar → ℤ → Option Fault
 ordinal_fault d n = unnumbered d.conditions n
 

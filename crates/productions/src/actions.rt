@@ -7,7 +7,8 @@ ghost use Rattle.rules.specs.Attributes.{declared};
 ghost use Rattle.rules.specs.Fitness.{condition_class};
 ghost use Rattle.rules.specs.Rules.{conditions_of, action_of, term_of};
 ghost use Rattle.languages.specs.Machines.{onward, unless};
-ghost use Rattle.productions.specs.Sofar.{with_action, one_setting, setting_fault, ordinal, unnumbered, acting_class, action_with};
+ghost use Rattle.productions.specs.Sofar.{with_action, one_setting, setting_fault, ordinal, unnumbered};
+ghost use Rattle.productions.specs.Sofar.{acting_class, action_with};
 ghost use Rattle.productions.specs.Machine.{at_closing, at_settings, modify_word, remove_word};
 ghost use Rattle.productions.specs.Meaning.{sofar_of, acting_of, settings_of, Judges, Steps, Turns};
 

@@ -19,8 +19,9 @@ pub(crate) enum Acting {
     Modify(usize, Class),
 }
 
-// The name, the conditions and the actions that were read whole, the variables that were met, and how much of the base's limits
-// is used up, the rules before this one included; then what was read of a condition, of a choice in it, and of an action.
+// The name, the conditions and the actions that were read whole, the variables that were met, and how much of the
+// base's limits is used up, the rules before this one included; then what was read of a condition, of a choice in it,
+// and of an action.
 #[derive(Drop)]
 pub(crate) struct Draft {
     pub name: u8,

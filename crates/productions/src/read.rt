@@ -23,8 +23,7 @@ use words::text::Words;
 impl Draft {
     // Reads on to the end of a production.
     fn read(&mut self, words: &mut Words, names: &mut Names, base: &Entering) -> Result<(), Trouble>
-        ensures ran { Reads (length (text_of words.old)) result (held names.old) (held names.new) self.new (rest words.new) (run (turned (entering_classes base.now) (entering_rules base.now)) (at_opening (held names.old)) (rest words.old)) }
-        ensures text { text_of words.new ≡ text_of words.old }
+        ensures { Reads words.old (held names.old) result (held names.new) self.new words.new (run (turned (entering_classes base.now) (entering_rules base.now)) (at_opening (held names.old)) (rest words.old)) }
     {
         let end = words.text().len();
         let mut state = State::Opening;
@@ -49,8 +48,7 @@ fn read_draft(
     base: &Entering,
     heap: Global,
 ) -> Result<Draft, Trouble>
-    ensures drafts { Drafts (length (text_of words.old)) (entering_classes base.now) (entering_rules base.now) (held names.old) (rest words.old) result (held names.new) (rest words.new) }
-    ensures text { text_of words.new ≡ text_of words.old }
+    ensures { Drafts (entering_classes base.now) (entering_rules base.now) words.old (held names.old) result (held names.new) words.new }
 {
     let mut draft = Draft::new(heap)?;
     let count = names.count();

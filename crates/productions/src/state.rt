@@ -72,7 +72,7 @@ pub(crate) enum Halt {
 }
 
 impl Halt {
-    // The same of a production, where the word stands at this place.
+    // Why the production is not read, where the word stands at this place.
     pub(crate) fn at(self, place: usize) -> Trouble
         ensures { result ≡ trouble_at self place }
     {

@@ -14,8 +14,8 @@ use values::names::Names;
 use words::token::Token;
 
 impl Draft {
-    // What a word does in a state. The states are data, and their meaning depends on the draft: so this is a match, and no table of
-    // closures.
+    // What a word does in a state. States are data, which the meaning of what was read depends on: a match shows them
+    // all, where closures would hide them.
     pub(crate) fn turn(
         &mut self,
         state: State,

@@ -8,14 +8,16 @@ use Rattle.productions.proofs.Rests.{takes}
 use Rattle.productions.proofs.Answering.{not_drafted}
 use Rattle.productions.proofs.read.read_draft.Goals as goal
 
-pub returns-clause-drafts : goal.returns-clause-drafts
-returns-clause-drafts c =
-    takes (entering_classes c.args.base.now) (entering_rules c.args.base.now) (held c.args.names.now) (rest c.args.words.now) _ _ c.in_default.ensures.ran.0
+pub returns : goal.returns
+returns c =
+    let base = c.args.base.now in
+    (takes (entering_classes base) (entering_rules base) (held c.args.names.now) (rest c.args.words.now) _ _ c.in_default.ensures.0, c.in_default.ensures.2)
 
-pub returns-in-Err-clause-drafts : goal.returns-in-Err-clause-drafts
-returns-in-Err-clause-drafts c =
+pub returns-in-Err : goal.returns-in-Err
+returns-in-Err c =
+    let base = c.args.base.now in
     let names = c.args.names.now in
+    let words = c.args.words.now in
     let l = c.read.new in
-    not_drafted (entering_classes c.args.base.now) (entering_rules c.args.base.now) (held names) (held l.names) (held c.keep.new.self) (rest c.args.words.now) (rest l.words) (rest c.args.words.now) (length (text_of c.args.words.now)) l.self c.in-Err.trouble c.in-Err.ensures.ran.0
-    (kept-names (held names) (held l.names) (held c.keep.new.self) c.count-count.result (some_name names) c.count-count.ensures c.in-Err.ensures.ran.1 c.keep.ensures)
-    refl
+    let same = kept-names (held names) (held l.names) (held c.keep.new.self) c.count-count.result (some_name names) c.count-count.ensures c.in-Err.ensures.1 c.keep.ensures in
+    (not_drafted (entering_classes base) (entering_rules base) (held names) (held l.names) (held c.keep.new.self) (rest words) (rest l.words) (rest words) (length (text_of words)) l.self c.in-Err.trouble c.in-Err.ensures.0 same refl, refl)
