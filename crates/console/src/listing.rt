@@ -12,7 +12,7 @@ use orders::listing::{Heading, Listing};
 use orders::ranking::highest_first;
 use std::alloc::{AllocError, Global};
 
-// What each element is listed by.
+// What each element is listed by. A `for` over places, since facts are read by place and lend no slice.
 fn headings<F: Facts>(heap: Global, facts: &F) -> Result<Vec<Heading>, AllocError>
     ensures { IfOk result (λ v. v.items ≡ headings_of (F.Facts.facts facts.now)) }
 {

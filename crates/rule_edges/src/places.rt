@@ -27,7 +27,7 @@ const ILLEGAL: [&[u8]; 12] = [
     b"\xff",
 ];
 
-// What a word does: it leads on, it makes the production whole, or it is refused by a number.
+// What a word does: it leads on, it makes the production whole, or it is refused by a number. An enum of the three, as for a whole call.
 #[derive(Clone, Copy)]
 enum Effect {
     LeadsOn,

@@ -1,4 +1,4 @@
-// Reading a base that stands.
+// Reading a base that stands. Each state has getters of its own: a trait for the three would need the same getters once more.
 ghost use Rattle.std.specs.Prelude.{◌≡◌};
 ghost use Rattle.rules.specs.Declarations.{classes_of};
 ghost use Rattle.rules.specs.Ruled.{rules_of};
