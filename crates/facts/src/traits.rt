@@ -42,9 +42,6 @@ pub trait Memory: Facts {
     // How many elements the memory can hold.
     ghost room: { Self → ℕ };
 
-    // No memory can hold more than 256.
-    ghost small: { (m : Self) → room m ≤ 256 };
-
     // How many elements the memory can hold.
     fn capacity(&self) -> usize
         ensures { result ≡ room self.now };
@@ -66,6 +63,9 @@ pub trait Memory: Facts {
     // Removes every element. The last time tag stays.
     fn clear(&mut self)
         ensures { meant Self.Facts.facts last room self.new ≡ after_clear (meant Self.Facts.facts last room self.old) };
+
+    // No memory can hold more than 256.
+    ghost small: { (m : Self) → room m ≤ 256 };
 }
 
 // The first place that has the time tag.

@@ -21,9 +21,9 @@ impl Order for Listing {
 
     ghost above = { λ _. HeadingAbove };
 
-    ghost laws = { λ _. heading_laws };
-
     fn stands_above(&self, a: &Heading, b: &Heading) -> bool {
         a < b
     }
+
+    ghost laws = { λ _. heading_laws };
 }

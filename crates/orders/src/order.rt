@@ -9,11 +9,11 @@ pub trait Order {
     // Which two things stand in the order, the first above the second.
     ghost above: { Self → Self.Ranked → Self.Ranked → Type 0 };
 
-    // It is an order: nothing stands above itself, of two different things exactly one stands above the other, and
-    // above carries on.
-    ghost laws: { (o : Self) → OrderLaws (above o) };
-
     // Whether `a` stands above `b`.
     fn stands_above(&self, a: &Self::Ranked, b: &Self::Ranked) -> bool
         ensures { Decides result (above self.now a.now b.now) };
+
+    // It is an order: nothing stands above itself, of two different things exactly one stands above the other, and
+    // above carries on.
+    ghost laws: { (o : Self) → OrderLaws (above o) };
 }

@@ -1,7 +1,7 @@
 // How much of the limits of a base rules use.
 ghost use Rattle.std.specs.Prelude.{◌≡◌, ◌+◌, ◌^◌, ◌<◌};
-ghost use Rattle.rules.specs.Rules.{test_of, field_tests_of, conditions_of, action_of, actions_of};
-ghost use Rattle.rules.specs.Sizes.{size_meant, together, excessive, tests_in, test_constants, tests_constants, constants_in, action_settings, settings_in};
+ghost use Rattle.rules.specs.Rules.{test_of, conditions_of, action_of, actions_of};
+ghost use Rattle.rules.specs.Sizes.{size_meant, together, excessive, tests_in, test_constants, constants_in, action_settings, settings_in};
 
 use crate::action::Action;
 use crate::condition::{Condition, Test};

@@ -57,8 +57,6 @@ impl Memory for PlainMemory<'_> {
 
     ghost room = { plain_room };
 
-    ghost small = { plain_small };
-
     fn capacity(&self) -> usize {
         self.places.len().min(MOST_ELEMENTS)
     }
@@ -105,4 +103,6 @@ impl Memory for PlainMemory<'_> {
     {
         self.count = 0;
     }
+
+    ghost small = { plain_small };
 }
