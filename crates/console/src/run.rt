@@ -22,7 +22,7 @@ use values::element::Element;
 use values::names::Names;
 use words::text::Words;
 
-// Reads every declaration.
+// Reads every declaration. That the text stays is a clause of its own, as on the calls that it makes.
 fn declare_all(words: &mut Words, names: &mut Names, base: &mut Declaring) -> Result<(), Refusal>
     ensures all { DeclaresAll (length (text_of words.old)) (reached (declaring_classes base.old) (held names.old) (rest words.old)) result (reached (declaring_classes base.new) (held names.new) (rest words.new)) }
     ensures text { text_of words.new ≡ text_of words.old }

@@ -1,4 +1,4 @@
-// Reading one production.
+// Reading one production. Words, names and base are lent apart, and the text has a clause of its own, as in `reader`.
 ghost use Rattle.std.specs.Prelude.{◌≡◌, length};
 ghost use Rattle.words.specs.Words.{rest, text_of};
 ghost use Rattle.values.specs.Naming.{held};

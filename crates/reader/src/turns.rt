@@ -1,4 +1,6 @@
-// What each word does to the form that is being read.
+// What each word does to the form that is being read. The word and the names are two parameters throughout: a struct that borrows both
+// for one call would say no more. The first and the last word of a form have functions here and in `productions`, since they lead to
+// states of different types.
 ghost use Rattle.std.specs.Prelude.{◌≡◌, ℕ, List, [], slice_set};
 ghost use Rattle.words.specs.Kinds.{symbol, kind_of};
 ghost use Rattle.values.specs.Elements.{fields_of};

@@ -68,7 +68,7 @@ fn tests_count(met: &mut [bool; 16], tests: &[FieldTest]) -> usize
     sum
 }
 
-// What conditions count in their order: each one for its class, and then its tests.
+// What conditions count in their order: each one for its class, and then its tests. A loop for the same reason.
 pub(crate) fn conditions_count(conditions: &[Condition]) -> usize
     requires { specificity_of (conditions_of conditions.now) < 2 ^ 64 }
     ensures { result ≡ specificity_of (conditions_of conditions.now) }

@@ -1,7 +1,6 @@
 // Values, elements and the names of symbols.
 #![tactic(auto)]
 
-pub mod bytes;
 pub mod element;
 pub mod name;
 pub mod names;

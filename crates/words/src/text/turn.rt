@@ -1,4 +1,4 @@
-// How the reader's state changes at a byte.
+// How the reader's state changes at a byte: one match on state and byte, since both are data that the proofs speak of.
 ghost use Rattle.std.specs.Prelude.{◌≡◌};
 ghost use Rattle.words.specs.Words.{moved, turned};
 
