@@ -4,120 +4,110 @@ use rules::action::{Action, Setting, Term};
 use rules::condition::{Condition, Test};
 use rules::rule::Rule;
 use std::alloc::{AllocError, Global};
+use std::fmt;
 use values::names::Names;
 use values::value::Value;
-use words::token::Predicate;
 
-fn show_value(heap: Global, value: Value) -> Result<String, AllocError> {
-    match value {
-        Value::Symbol(number) => format!(in heap; "#{number}"),
-        Value::Number(number) => format!(in heap; "{number}"),
-    }
-}
+// A part of a base, as it shows.
+#[derive(Clone, Copy)]
+struct Shown<T>(T);
 
-fn show_term(heap: Global, term: Term) -> Result<String, AllocError> {
-    match term {
-        Term::Constant(value) => show_value(heap, value),
-        Term::Variable(place) => {
-            let number = place.number;
-            format!(in heap; "<{number}>")
+impl fmt::Display for Shown<Value> {
+    fn fmt<W: fmt::Write>(&self, f: &mut fmt::Formatter<W>) -> fmt::Result {
+        match self.0 {
+            Value::Symbol(number) => write!(f, "#{number}"),
+            Value::Number(number) => write!(f, "{number}"),
         }
     }
 }
 
-fn show_comparison(heap: Global, predicate: Predicate, term: Term) -> Result<String, AllocError> {
-    let relation = predicate.bytes().escape_ascii();
-    let operand = show_term(heap, term)?;
-    format!(in heap; "{relation} {operand}")
-}
-
-fn show_choice(heap: Global, constants: &[Value]) -> Result<String, AllocError> {
-    let mut text = format!(in heap; "<<")?;
-    for constant in constants {
-        let value = show_value(heap, *constant)?;
-        text.push_str(" ")?;
-        text.push_str(value.as_str())?;
-    }
-    text.push_str(" >>")?;
-    Ok(text)
-}
-
-fn show_test(heap: Global, test: &Test) -> Result<String, AllocError> {
-    match test {
-        Test::Constant(value) => show_value(heap, *value),
-        Test::Variable(place) => show_term(heap, Term::Variable(*place)),
-        Test::Compare(predicate, value) => {
-            show_comparison(heap, *predicate, Term::Constant(*value))
+impl fmt::Display for Shown<Term> {
+    fn fmt<W: fmt::Write>(&self, f: &mut fmt::Formatter<W>) -> fmt::Result {
+        match self.0 {
+            Term::Constant(value) => write!(f, "{}", Shown(value)),
+            Term::Variable(place) => write!(f, "<{}>", place.number),
         }
-        Test::CompareVariable(predicate, place) => {
-            show_comparison(heap, *predicate, Term::Variable(*place))
+    }
+}
+
+impl fmt::Display for Shown<&Test> {
+    fn fmt<W: fmt::Write>(&self, f: &mut fmt::Formatter<W>) -> fmt::Result {
+        match self.0 {
+            Test::Constant(value) => write!(f, "{}", Shown(*value)),
+            Test::Variable(place) => write!(f, "{}", Shown(Term::Variable(*place))),
+            Test::Compare(predicate, value) => {
+                let relation = predicate.bytes().escape_ascii();
+                write!(f, "{relation} {}", Shown(*value))
+            }
+            Test::CompareVariable(predicate, place) => {
+                let relation = predicate.bytes().escape_ascii();
+                write!(f, "{relation} {}", Shown(Term::Variable(*place)))
+            }
+            Test::Choice(constants) => {
+                f.write_str("<<")?;
+                for constant in constants.iter() {
+                    write!(f, " {}", Shown(*constant))?;
+                }
+                f.write_str(" >>")
+            }
         }
-        Test::Choice(constants) => show_choice(heap, constants),
     }
 }
 
-fn show_condition(heap: Global, condition: &Condition) -> Result<String, AllocError> {
-    let sign = if condition.negated { "-" } else { "+" };
-    let class = condition.class.name();
-    let mut text = format!(in heap; " {sign}#{class}")?;
-    for test in condition.tests.iter() {
-        let field = test.field.number;
-        let asked = show_test(heap, &test.test)?;
-        let shown = format!(in heap; " ^{field} {asked}")?;
-        text.push_str(shown.as_str())?;
-    }
-    Ok(text)
-}
-
-fn show_settings(heap: Global, settings: &[Setting]) -> Result<String, AllocError> {
-    let mut text = String::new(heap);
-    for setting in settings {
-        let field = setting.field.number;
-        let value = show_term(heap, setting.value)?;
-        let shown = format!(in heap; " ^{field} {value}")?;
-        text.push_str(shown.as_str())?;
-    }
-    Ok(text)
-}
-
-fn show_action(heap: Global, action: &Action) -> Result<String, AllocError> {
-    match action {
-        Action::Make(class, settings) => {
-            let name = class.name();
-            let shown = show_settings(heap, settings)?;
-            format!(in heap; " make #{name}{shown}")
+impl fmt::Display for Shown<&Condition> {
+    fn fmt<W: fmt::Write>(&self, f: &mut fmt::Formatter<W>) -> fmt::Result {
+        let sign = if self.0.negated { "-" } else { "+" };
+        write!(f, " {sign}#{}", self.0.class.name())?;
+        for test in self.0.tests.iter() {
+            write!(f, " ^{} {}", test.field.number, Shown(&test.test))?;
         }
-        Action::Modify(place, settings) => {
-            let shown = show_settings(heap, settings)?;
-            format!(in heap; " modify {place}{shown}")
-        }
-        Action::Remove(place) => format!(in heap; " remove {place}"),
-        Action::Halt => format!(in heap; " halt"),
+        Ok(())
     }
 }
 
-fn show_rule(heap: Global, rule: &Rule) -> Result<String, AllocError> {
-    let name = rule.name;
-    let mut text = format!(in heap; "#{name}:")?;
-    for condition in rule.conditions.iter() {
-        let shown = show_condition(heap, condition)?;
-        text.push_str(shown.as_str())?;
+impl fmt::Display for Shown<&[Setting]> {
+    fn fmt<W: fmt::Write>(&self, f: &mut fmt::Formatter<W>) -> fmt::Result {
+        for setting in self.0 {
+            write!(f, " ^{} {}", setting.field.number, Shown(setting.value))?;
+        }
+        Ok(())
     }
-    text.push_str(" -->")?;
-    for action in rule.actions.iter() {
-        let shown = show_action(heap, action)?;
-        text.push_str(shown.as_str())?;
+}
+
+impl fmt::Display for Shown<&Action> {
+    fn fmt<W: fmt::Write>(&self, f: &mut fmt::Formatter<W>) -> fmt::Result {
+        match self.0 {
+            Action::Make(class, settings) => {
+                write!(f, " make #{}{}", class.name(), Shown(settings.as_slice()))
+            }
+            Action::Modify(place, settings) => {
+                write!(f, " modify {place}{}", Shown(settings.as_slice()))
+            }
+            Action::Remove(place) => write!(f, " remove {place}"),
+            Action::Halt => f.write_str(" halt"),
+        }
     }
-    Ok(text)
+}
+
+impl fmt::Display for Shown<&Rule> {
+    fn fmt<W: fmt::Write>(&self, f: &mut fmt::Formatter<W>) -> fmt::Result {
+        write!(f, "#{}:", self.0.name)?;
+        for condition in self.0.conditions.iter() {
+            write!(f, "{}", Shown(condition))?;
+        }
+        f.write_str(" -->")?;
+        for action in self.0.actions.iter() {
+            write!(f, "{}", Shown(action))?;
+        }
+        Ok(())
+    }
 }
 
 // The rules in their order, with a line feed behind each.
 pub(crate) fn show_rules(heap: Global, rules: &[Rule]) -> Result<String, AllocError> {
     let mut text = String::new(heap);
     for rule in rules {
-        let shown = show_rule(heap, rule)?;
-        text.push_str(shown.as_str())?;
-        text.push_str("\n")?;
+        writeln!(text, "{}", Shown(rule))?;
     }
     Ok(text)
 }
