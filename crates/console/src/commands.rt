@@ -43,6 +43,7 @@ pub(crate) fn perform<M: Memory>(
         }
         Command::ListMemory => return legend.write_memory(page, memory),
     };
+    // No `or_else`: what a closure leaves of the page is lost to the proof.
     match answer {
         Ok(()) => Ok(()),
         Err(refusal) => write_memory_refusal(page, refusal),

@@ -12,17 +12,16 @@ use orders::listing::{Heading, Listing};
 use orders::ranking::highest_first;
 use std::alloc::{AllocError, Global};
 
-// What each element is listed by. A `for` over places, since facts are read by place and lend no slice.
+// What each element is listed by.
 fn headings<F: Facts>(heap: Global, facts: &F) -> Result<Vec<Heading>, AllocError>
     ensures { IfOk result (λ v. v.items ≡ headings_of (F.Facts.facts facts.now)) }
 {
-    let mut headings = Vec::new(heap);
-    for place in 0..facts.count() {
-        let class = class_at(facts, place);
-        let tag = facts.tag_at(place);
-        headings.push(Heading { class, tag })?;
-    }
-    Ok(headings)
+    (0..facts.count())
+        .map(|place| Heading {
+            class: class_at(facts, place),
+            tag: facts.tag_at(place),
+        })
+        .collect(heap)
 }
 
 impl Legend<'_> {
