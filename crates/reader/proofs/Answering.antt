@@ -1,5 +1,5 @@
 -- From the outcome of a reading to the answers of the calls. Assumes nothing.
-use Rattle.std.proofs.Common.{◌≡◌, ℕ, ◌<◌, ◌≤◌, Bool, true, false, cond, not, ◌||◌, leb, List, [], ◌∷◌, ◌++◌, length, set, is_some, Some, None, Err, Option, unwrap_or, sym, refl, ap, ◌∙◌, subst, inr}
+use Rattle.std.proofs.Common.{◌≡◌, ℕ, ◌<◌, ◌≤◌, Bool, true, false, cond, not, ◌||◌, leb, List, [], ◌∷◌, ◌++◌, length, set, is_some, Some, None, Ok, Err, Option, unwrap_or, sym, refl, ap, ◌∙◌, subst, inr}
 use Rattle.std.proofs.lemmas.Bool.{cond-false}
 use Rattle.words.specs.declared.text.Words.{Words}
 use Rattle.words.specs.Words.{Lexeme, rest, text_of}
@@ -8,7 +8,7 @@ use Rattle.values.specs.Elements.{blank}
 use Rattle.values.specs.Naming.{answer_intern, after_intern}
 use Rattle.rules.specs.Attributes.{Declared, declared, new_class, with_attribute}
 use Rattle.rules.specs.declared.class.Class.{Class}
-use Rattle.rules.specs.Declarations.{find_class, after_declare}
+use Rattle.rules.specs.Declarations.{find_class, answer_declare, after_declare}
 use Rattle.languages.specs.declared.refusal.Cause.{Cause}
 use Rattle.languages.specs.declared.refusal.Refusal.{Refusal}
 use Rattle.languages.specs.Languages.{Takes, TakesNone, Broken, longest}
@@ -76,13 +76,13 @@ class-new cs (Some i) = by (is_some (find_class cs i)) (leb 16 (length cs))
     by false true e = absurd cc
     by false false e = (refl, refl)
 
-new_class_lem : (cs : List Declared) (ns ms : List (List ℕ)) (ls after : List Lexeme) (d : Declared) → Takes (declaration_script cs ns) ls (declares d, ms) after → after_declare cs d ≡ cs ++ d ∷ []
+-- a class that is declared is new, and there is room for it
+new_class_lem : (cs : List Declared) (ns ms : List (List ℕ)) (ls after : List Lexeme) (d : Declared) → Takes (declaration_script cs ns) ls (declares d, ms) after → (is_some (find_class cs d.name) ≡ false) × (leb 16 (length cs) ≡ false)
 new_class_lem cs ns ms ls after d t =
     let w = t.form.class in
     let name : d.name ≡ numbered ns w = ap (λ x. name_in x.0) t.asked ∙ name-kept t.form.attributes (after_intern ns w) [] (new_class (numbered ns w)) in
     let new = class-new cs (answer_intern ns w) t.clear.1.1.0 in
-    cond-false (is_some (find_class cs d.name)) _ _ (ap (λ n. is_some (find_class cs n)) name ∙ new.0)
-    ∙ cond-false (leb 16 (length cs)) _ _ new.1
+    (ap (λ n. is_some (find_class cs n)) name ∙ new.0, new.1)
 
 -- ---- a declaration declares, and a command commands
 
@@ -115,10 +115,20 @@ declares_one cs ns ms ls after f a t e =
 pub commands_one : (cs : List Declared) (ns ms : List (List ℕ)) (ls after : List Lexeme) (f : Taken) (c : Class) → Takes (command_script cs ns) ls (entry_of f, ms) after → f ≡ Declaration c → ⊥
 commands_one cs ns ms ls after f c t e = subst (λ x. Commands x.0) (sym t.asked ∙ ap (λ g. (entry_of g, ms)) e) (asks-act cs ns t.form)
 
-pub declared_taken : (cs ds es : List Declared) (ns ms : List (List ℕ)) (ls after : List Lexeme) (f : Taken) (c : Class) → ds ≡ cs → Takes (declaration_script ds ns) ls (entry_of f, ms) after → f ≡ Declaration c → es ≡ after_declare cs (declared c) → (x : Declared) × Takes (declaration_script cs ns) ls (declares x, ms) after × (es ≡ cs ++ x ∷ [])
-declared_taken cs ds es ns ms ls after f c q t e g =
-    let u = subst (λ x. Takes (declaration_script x ns) ls (declares (declared c), ms) after) q (subst (λ h. Takes (declaration_script ds ns) ls (entry_of h, ms) after) e t) in
-    (declared c, u, g ∙ new_class_lem cs ns ms ls after (declared c) u)
+module _ (cs ds : List Declared) (ns ms : List (List ℕ)) (ls after : List Lexeme) (f : Taken) (c : Class) (q : ds ≡ cs) (t : Takes (declaration_script ds ns) ls (entry_of f, ms) after) (e : f ≡ Declaration c) where
+  taken_so : Takes (declaration_script cs ns) ls (declares (declared c), ms) after
+  taken_so = subst (λ x. Takes (declaration_script x ns) ls (declares (declared c), ms) after) q (subst (λ h. Takes (declaration_script ds ns) ls (entry_of h, ms) after) e t)
+
+  pub declared_taken : (es : List Declared) → es ≡ after_declare cs (declared c) → (x : Declared) × Takes (declaration_script cs ns) ls (declares x, ms) after × (es ≡ cs ++ x ∷ [])
+  declared_taken es g =
+      let new = new_class_lem cs ns ms ls after (declared c) taken_so in
+      (declared c, taken_so, g ∙ cond-false (is_some (find_class cs c.name)) _ _ new.0 ∙ cond-false (leb 16 (length cs)) _ _ new.1)
+
+  -- so the base takes it
+  pub declared_well : answer_declare cs (declared c) ≡ Ok tt
+  declared_well =
+      let new = new_class_lem cs ns ms ls after (declared c) taken_so in
+      cond-false (is_some (find_class cs c.name)) _ _ new.0 ∙ cond-false (leb 16 (length cs)) _ _ new.1
 
 pub declaration_refused : (end : ℕ) (cs ds : List Declared) (ns ms : List (List ℕ)) (before after : Words) (x : Refusal) → end ≡ length (text_of before) → end ≤ longest → declares_next (rest before) ≡ true → ds ≡ cs → Reads Declaring ds ns before (Err x) ms after → ReadsDeclaration end cs ns (rest before) (Err x) cs ms (rest after)
 declaration_refused end cs ds ns ms before after x is short comes q r = (

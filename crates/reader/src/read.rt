@@ -80,9 +80,11 @@ pub fn read_declaration(
     if !form_comes(words, b"literalize") {
         return Ok(false);
     }
-    if let Taken::Declaration(class) = read_form(Phase::Declaring, words, names, base.classes())? {
-        let _ = base.declare(class);
-    }
+    let Taken::Declaration(class) = read_form(Phase::Declaring, words, names, base.classes())?
+    else {
+        unreachable!();
+    };
+    base.declare(class).unwrap();
     Ok(true)
 }
 
@@ -102,7 +104,7 @@ pub fn read_command(
         return Ok(None);
     }
     match read_form(Phase::Commanding, words, names, base.classes())? {
-        Taken::Declaration(_) => Ok(None),
+        Taken::Declaration(_) => unreachable!(),
         Taken::Commanded(command) => Ok(Some(command)),
     }
 }
