@@ -23,7 +23,8 @@ pub(crate) struct Legend<'a> {
     pub classes: &'a Classes,
 }
 
-// The class symbol of the element at a place. Facts and place stay two parameters here and below: a struct of the two would say no more.
+// The class symbol of the element at a place. Facts and place stay two parameters here and below: a struct of the two
+// would say no more.
 pub(crate) fn class_at<F: Facts>(facts: &F, place: usize) -> u8
     ensures { result ≡ class_symbol (fields_at (F.Facts.facts facts.now) place) }
 {

@@ -1,5 +1,5 @@
-// Reading one form. Words, names and base are lent apart, since a call is right for any of them; and that the text stays is a clause of
-// its own on the public calls, since a caller that reads on needs it by itself.
+// Reading one form. Words, names and base are lent apart, since a call is right for any of them; and that the text
+// stays is a clause of its own on the public calls, since a caller that reads on needs it by itself.
 ghost use Rattle.std.specs.Prelude.{◌≡◌, length};
 ghost use Rattle.words.specs.Words.{rest, text_of};
 ghost use Rattle.values.specs.Naming.{held};

@@ -1,6 +1,6 @@
-// What each word does to the form that is being read. The word and the names are two parameters throughout: a struct that borrows both
-// for one call would say no more. The first and the last word of a form have functions here and in `productions`, since they lead to
-// states of different types.
+// What each word does to the form that is being read. The word and the names are two parameters throughout: a struct
+// that borrows both for one call would say no more. The first and the last word of a form have functions here and in
+// `productions`, since they lead to states of different types.
 ghost use Rattle.std.specs.Prelude.{◌≡◌, ℕ, List, [], slice_set};
 ghost use Rattle.words.specs.Kinds.{symbol, kind_of};
 ghost use Rattle.values.specs.Elements.{fields_of};
@@ -43,8 +43,8 @@ fn at_head(phase: Phase, token: &Token) -> Result<Step, Cause>
     }
 }
 
-// The same, where it is a symbol; in a function of its own, since one match on the token and on its bytes was tried, and
-// the proof of its last arm did not close.
+// The same, where it is a symbol; in a function of its own, since one match on the token and on its bytes was tried,
+// and the proof of its last arm did not close.
 fn head_word(phase: Phase, word: &[u8]) -> Result<Step, Cause>
     ensures { (ns : List (List ℕ)) → Turns [] ns (Head phase) (symbol word.now) result ns }
 {

@@ -7,10 +7,10 @@ ghost use Rattle.rules.specs.Sizes.{tests_in, constants_in, settings_in};
 use crate::action::Action;
 use crate::condition::Condition;
 
-// The symbol that names the rule, its conditions and its actions, in text order. Its type keeps that at least one and at
-// most six conditions are unnegated (`matched`, `tagged`), that fields lie within the class and variables are met first
-// under no predicate or under `=` (`met`), and that in actions fields lie within the class, K is in range and values are
-// bound (`bound`).
+// The symbol that names the rule, its conditions and its actions, in text order. Its type keeps that at least one and
+// at most six conditions are unnegated (`matched`, `tagged`), that fields lie within the class and variables are met
+// first under no predicate or under `=` (`met`), and that in actions fields lie within the class, K is in range and
+// values are bound (`bound`).
 #[derive(Drop)]
 pub struct Rule {
     pub name: u8,

@@ -13,7 +13,7 @@ pub const NIL: Value = Value::Symbol(0);
 
 impl Value {
     // Whether the two are one value: the same kind and the same content.
-    // As `==`, with a clause that proofs of callers cite.
+    // As `==`, with a clause that says in one word that they are.
     pub fn same(self, other: Value) -> bool
         ensures { Decides result (self ≡ other) }
     {

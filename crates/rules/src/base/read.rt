@@ -1,4 +1,5 @@
-// Reading a base that stands. Each state has getters of its own: a trait for the three would need the same getters once more.
+// Reading a base that stands. Each state has getters of its own: one base over a state would need the invariants, which
+// differ, as a law of the states.
 ghost use Rattle.std.specs.Prelude.{◌≡◌};
 ghost use Rattle.rules.specs.Declarations.{classes_of};
 ghost use Rattle.rules.specs.Ruled.{rules_of};
