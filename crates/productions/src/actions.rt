@@ -214,7 +214,8 @@ impl Draft {
     fn close_action(&mut self) -> Result<Step, Halt>
         ensures { (ns : List (List ℕ)) → Turns [] [] ns self.old State.Settings close' result ns self.new }
     {
-        let settings = replace(&mut self.settings, Vec::new(self.heap));
+        let next = Vec::new(self.heap());
+        let settings = replace(&mut self.settings, next);
         self.actions.push(self.acting.with(settings))?;
         Ok(Step::Onward(State::Actions))
     }

@@ -120,7 +120,7 @@ impl Draft {
     fn close_condition(&mut self) -> Result<Step, Halt>
         ensures { (ns : List (List ℕ)) → Turns [] [] ns self.old State.Pairs close' result ns self.new }
     {
-        let next = blank_condition(self.heap);
+        let next = blank_condition(self.heap());
         self.conditions.push(replace(&mut self.condition, next))?;
         Ok(Step::Onward(State::Conditions))
     }

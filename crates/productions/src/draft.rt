@@ -33,7 +33,6 @@ pub(crate) struct Draft {
     pub choice: Vec<Value>,
     pub acting: Acting,
     pub settings: Vec<Setting>,
-    pub heap: Global,
 }
 
 // A condition of which nothing is read.
@@ -70,7 +69,11 @@ impl Draft {
             choice: Vec::new(heap),
             acting: Acting::Make(Class::new(0)),
             settings: Vec::new(heap),
-            heap,
         })
+    }
+
+    // What its lists are allocated from.
+    pub fn heap(&self) -> Global {
+        *self.settings.allocator()
     }
 }

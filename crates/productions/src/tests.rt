@@ -212,7 +212,8 @@ impl Draft {
     fn close_choice(&mut self, field: Place) -> Result<Step, Halt>
         ensures { (ns : List (List ℕ)) → Turns [] [] ns self.old (State.Choices field) close_choice result ns self.new }
     {
-        let constants = replace(&mut self.choice, Vec::new(self.heap));
+        let next = Vec::new(self.heap());
+        let constants = replace(&mut self.choice, next);
         self.add_test(field, Test::Choice(constants))
     }
 
