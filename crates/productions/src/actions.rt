@@ -12,7 +12,7 @@ ghost use Rattle.productions.specs.Sofar.{acting_class, action_with};
 ghost use Rattle.productions.specs.Machine.{at_closing, at_settings, modify_word, remove_word};
 ghost use Rattle.productions.specs.Meaning.{sofar_of, acting_of, settings_of, Judges, Steps, Turns};
 
-use crate::draft::{Acting, Draft, count};
+use crate::draft::{Acting, Draft, count, room};
 use crate::state::{Halt, State, Step};
 use languages::naming::{class_named, field_named};
 use languages::refusal::{Cause, unexpected};
@@ -85,9 +85,7 @@ impl Draft {
     fn open_action(&self) -> Result<Step, Halt>
         ensures { (ns : List (List ℕ)) → Turns [] [] ns self.now State.Actions open' result ns self.now }
     {
-        if self.actions.len() >= MOST_ACTIONS {
-            return Err(Halt::Refused(Cause::OverLimit));
-        }
+        room(self.actions.len(), MOST_ACTIONS)?;
         Ok(Step::Onward(State::Action))
     }
 

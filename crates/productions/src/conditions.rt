@@ -8,7 +8,7 @@ ghost use Rattle.languages.specs.Senses.{sense};
 ghost use Rattle.productions.specs.Machine.{at_class};
 ghost use Rattle.productions.specs.Meaning.{sofar_of, Steps, Turns};
 
-use crate::draft::{Draft, blank_condition, count};
+use crate::draft::{Draft, blank_condition, count, room};
 use crate::state::{Halt, State, Step};
 use languages::naming::{class_named, field_named};
 use languages::refusal::{Cause, unexpected};
@@ -52,12 +52,8 @@ impl Draft {
     fn open_condition(&self) -> Result<Step, Halt>
         ensures { (ns : List (List ℕ)) → Turns [] [] ns self.now State.Conditions open' result ns self.now }
     {
-        if self.conditions.len() >= MOST_CONDITIONS {
-            return Err(Halt::Refused(Cause::OverLimit));
-        }
-        if count_unnegated(&self.conditions) >= MOST_UNNEGATED {
-            return Err(Halt::Refused(Cause::OverLimit));
-        }
+        room(self.conditions.len(), MOST_CONDITIONS)?;
+        room(count_unnegated(&self.conditions), MOST_UNNEGATED)?;
         Ok(Step::Onward(State::Class(false)))
     }
 
@@ -65,9 +61,7 @@ impl Draft {
     fn negate_condition(&self) -> Result<Step, Halt>
         ensures { (ns : List (List ℕ)) → Turns [] [] ns self.now State.Conditions minus result ns self.now }
     {
-        if self.conditions.len() >= MOST_CONDITIONS {
-            return Err(Halt::Refused(Cause::OverLimit));
-        }
+        room(self.conditions.len(), MOST_CONDITIONS)?;
         Ok(Step::Onward(State::Negated))
     }
 

@@ -5,7 +5,7 @@ ghost use Rattle.values.specs.Naming.{held};
 ghost use Rattle.rules.specs.Bases.{entering_rules};
 ghost use Rattle.productions.specs.Meaning.{Turns};
 
-use crate::draft::Draft;
+use crate::draft::{Draft, room};
 use crate::state::{Halt, State, Step};
 use languages::refusal::{Cause, unexpected};
 use rules::base::{Entering, MOST_RULES};
@@ -56,9 +56,7 @@ impl Draft {
         if base.has_rule(number) {
             return Err(Halt::Refused(Cause::WrongName));
         }
-        if base.count() >= MOST_RULES {
-            return Err(Halt::Refused(Cause::OverLimit));
-        }
+        room(base.count(), MOST_RULES)?;
         self.name = number;
         self.conditions.clear();
         self.variables.clear();
