@@ -36,7 +36,7 @@ pub(crate) fn at_closing(token: &Token) -> Result<Step, Halt>
 {
     match token {
         Token::Close => Ok(Step::Onward(State::Actions)),
-        _ => Err(Halt::Refused(unexpected(token))),
+        _ => Err(unexpected(token).into()),
     }
 }
 
@@ -77,7 +77,7 @@ impl Draft {
         match token {
             Token::Open => self.open_action(),
             Token::Close => Ok(Step::Whole),
-            _ => Err(Halt::Refused(unexpected(token))),
+            _ => Err(unexpected(token).into()),
         }
     }
 
@@ -103,7 +103,7 @@ impl Draft {
     {
         match token {
             Token::Symbol(word) => self.action_head(word),
-            _ => Err(Halt::Refused(unexpected(token))),
+            _ => Err(unexpected(token).into()),
         }
     }
 
@@ -116,7 +116,7 @@ impl Draft {
             b"modify" => Ok(Step::Onward(State::Modify)),
             b"remove" => Ok(Step::Onward(State::Remove)),
             b"halt" => self.add_action(Action::Halt),
-            _ => Err(Halt::Refused(Cause::UnexpectedWord)),
+            _ => Err(Cause::UnexpectedWord.into()),
         }
     }
 
@@ -140,7 +140,7 @@ impl Draft {
     {
         match token {
             Token::Symbol(word) => self.make_class(word, names, classes),
-            _ => Err(Halt::Refused(unexpected(token))),
+            _ => Err(unexpected(token).into()),
         }
     }
 
@@ -167,7 +167,7 @@ impl Draft {
     {
         match token {
             Token::Number(number, _) => self.modify(*number),
-            _ => Err(Halt::Refused(unexpected(token))),
+            _ => Err(unexpected(token).into()),
         }
     }
 
@@ -185,7 +185,7 @@ impl Draft {
     {
         match token {
             Token::Number(number, _) => self.remove(*number),
-            _ => Err(Halt::Refused(unexpected(token))),
+            _ => Err(unexpected(token).into()),
         }
     }
 
@@ -204,7 +204,7 @@ impl Draft {
         match token {
             Token::Hat => Ok(Step::Onward(State::Setting)),
             Token::Close => self.close_action(),
-            _ => Err(Halt::Refused(unexpected(token))),
+            _ => Err(unexpected(token).into()),
         }
     }
 
@@ -224,7 +224,7 @@ impl Draft {
     {
         match token {
             Token::Symbol(word) => self.set_field(word, names),
-            _ => Err(Halt::Refused(unexpected(token))),
+            _ => Err(unexpected(token).into()),
         }
     }
 
@@ -274,7 +274,7 @@ impl Draft {
             Token::Number(n, _) => self.add_setting(field, Term::Constant(Value::Number(*n))),
             Token::Symbol(word) => self.set_symbol(field, word, names),
             Token::Variable(word) => self.set_variable(field, word),
-            _ => Err(Halt::Refused(unexpected(token))),
+            _ => Err(unexpected(token).into()),
         }
     }
 }

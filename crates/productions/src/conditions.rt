@@ -31,7 +31,7 @@ pub(crate) fn at_pattern(negated: bool, token: &Token) -> Result<Step, Halt>
 {
     match token {
         Token::Open => Ok(Step::Onward(State::Class(negated))),
-        _ => Err(Halt::Refused(unexpected(token))),
+        _ => Err(unexpected(token).into()),
     }
 }
 
@@ -44,7 +44,7 @@ impl Draft {
             Token::Open => self.open_condition(),
             Token::Minus => self.negate_condition(),
             Token::Arrow => Ok(Step::Onward(State::Actions)),
-            _ => Err(Halt::Refused(unexpected(token))),
+            _ => Err(unexpected(token).into()),
         }
     }
 
@@ -77,7 +77,7 @@ impl Draft {
     {
         match token {
             Token::Symbol(word) => self.begin_condition(negated, word, names, classes),
-            _ => Err(Halt::Refused(unexpected(token))),
+            _ => Err(unexpected(token).into()),
         }
     }
 
@@ -106,7 +106,7 @@ impl Draft {
         match token {
             Token::Hat => Ok(Step::Onward(State::Attribute)),
             Token::Close => self.close_condition(),
-            _ => Err(Halt::Refused(unexpected(token))),
+            _ => Err(unexpected(token).into()),
         }
     }
 
@@ -125,7 +125,7 @@ impl Draft {
     {
         match token {
             Token::Symbol(word) => self.tested_field(word, names),
-            _ => Err(Halt::Refused(unexpected(token))),
+            _ => Err(unexpected(token).into()),
         }
     }
 

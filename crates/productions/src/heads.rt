@@ -18,7 +18,7 @@ pub(crate) fn at_opening(token: &Token) -> Result<Step, Halt>
 {
     match token {
         Token::Open => Ok(Step::Onward(State::Head)),
-        _ => Err(Halt::Refused(unexpected(token))),
+        _ => Err(unexpected(token).into()),
     }
 }
 
@@ -28,7 +28,7 @@ pub(crate) fn at_head(token: &Token) -> Result<Step, Halt>
 {
     match token {
         Token::Symbol(b"p") => Ok(Step::Onward(State::Name)),
-        _ => Err(Halt::Refused(unexpected(token))),
+        _ => Err(unexpected(token).into()),
     }
 }
 
@@ -44,7 +44,7 @@ impl Draft {
     {
         match token {
             Token::Symbol(word) => self.begin(word, names, base),
-            _ => Err(Halt::Refused(unexpected(token))),
+            _ => Err(unexpected(token).into()),
         }
     }
 
@@ -54,7 +54,7 @@ impl Draft {
     {
         let number = names.intern(word).ok_or(Cause::OverLimit)?;
         if base.has_rule(number) {
-            return Err(Halt::Refused(Cause::WrongName));
+            return Err(Cause::WrongName.into());
         }
         room(base.count(), MOST_RULES)?;
         self.name = number;
