@@ -12,7 +12,7 @@ ghost use Rattle.productions.specs.Sofar.{acting_class, action_with};
 ghost use Rattle.productions.specs.Machine.{at_closing, at_settings, modify_word, remove_word};
 ghost use Rattle.productions.specs.Meaning.{sofar_of, acting_of, settings_of, Judges, Steps, Turns};
 
-use crate::draft::{Acting, Draft, count};
+use crate::draft::{Acting, Draft, count, room};
 use crate::state::{Halt, State, Step};
 use languages::naming::{class_named, field_named};
 use languages::refusal::{Cause, unexpected};
@@ -36,7 +36,7 @@ pub(crate) fn at_closing(token: &Token) -> Result<Step, Halt>
 {
     match token {
         Token::Close => Ok(Step::Onward(State::Actions)),
-        _ => Err(Halt::Refused(unexpected(token))),
+        _ => Err(unexpected(token).into()),
     }
 }
 
@@ -77,7 +77,7 @@ impl Draft {
         match token {
             Token::Open => self.open_action(),
             Token::Close => Ok(Step::Whole),
-            _ => Err(Halt::Refused(unexpected(token))),
+            _ => Err(unexpected(token).into()),
         }
     }
 
@@ -85,9 +85,7 @@ impl Draft {
     fn open_action(&self) -> Result<Step, Halt>
         ensures { (ns : List (List ℕ)) → Turns [] [] ns self.now State.Actions open' result ns self.now }
     {
-        if self.actions.len() >= MOST_ACTIONS {
-            return Err(Halt::Refused(Cause::OverLimit));
-        }
+        room(self.actions.len(), MOST_ACTIONS)?;
         Ok(Step::Onward(State::Action))
     }
 
@@ -105,7 +103,7 @@ impl Draft {
     {
         match token {
             Token::Symbol(word) => self.action_head(word),
-            _ => Err(Halt::Refused(unexpected(token))),
+            _ => Err(unexpected(token).into()),
         }
     }
 
@@ -118,7 +116,7 @@ impl Draft {
             b"modify" => Ok(Step::Onward(State::Modify)),
             b"remove" => Ok(Step::Onward(State::Remove)),
             b"halt" => self.add_action(Action::Halt),
-            _ => Err(Halt::Refused(Cause::UnexpectedWord)),
+            _ => Err(Cause::UnexpectedWord.into()),
         }
     }
 
@@ -142,7 +140,7 @@ impl Draft {
     {
         match token {
             Token::Symbol(word) => self.make_class(word, names, classes),
-            _ => Err(Halt::Refused(unexpected(token))),
+            _ => Err(unexpected(token).into()),
         }
     }
 
@@ -169,7 +167,7 @@ impl Draft {
     {
         match token {
             Token::Number(number, _) => self.modify(*number),
-            _ => Err(Halt::Refused(unexpected(token))),
+            _ => Err(unexpected(token).into()),
         }
     }
 
@@ -187,7 +185,7 @@ impl Draft {
     {
         match token {
             Token::Number(number, _) => self.remove(*number),
-            _ => Err(Halt::Refused(unexpected(token))),
+            _ => Err(unexpected(token).into()),
         }
     }
 
@@ -206,7 +204,7 @@ impl Draft {
         match token {
             Token::Hat => Ok(Step::Onward(State::Setting)),
             Token::Close => self.close_action(),
-            _ => Err(Halt::Refused(unexpected(token))),
+            _ => Err(unexpected(token).into()),
         }
     }
 
@@ -214,7 +212,8 @@ impl Draft {
     fn close_action(&mut self) -> Result<Step, Halt>
         ensures { (ns : List (List ℕ)) → Turns [] [] ns self.old State.Settings close' result ns self.new }
     {
-        let settings = replace(&mut self.settings, Vec::new(self.heap));
+        let next = Vec::new(self.heap());
+        let settings = replace(&mut self.settings, next);
         self.actions.push(self.acting.with(settings))?;
         Ok(Step::Onward(State::Actions))
     }
@@ -225,7 +224,7 @@ impl Draft {
     {
         match token {
             Token::Symbol(word) => self.set_field(word, names),
-            _ => Err(Halt::Refused(unexpected(token))),
+            _ => Err(unexpected(token).into()),
         }
     }
 
@@ -275,7 +274,7 @@ impl Draft {
             Token::Number(n, _) => self.add_setting(field, Term::Constant(Value::Number(*n))),
             Token::Symbol(word) => self.set_symbol(field, word, names),
             Token::Variable(word) => self.set_variable(field, word),
-            _ => Err(Halt::Refused(unexpected(token))),
+            _ => Err(unexpected(token).into()),
         }
     }
 }

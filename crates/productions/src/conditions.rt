@@ -8,7 +8,7 @@ ghost use Rattle.languages.specs.Senses.{sense};
 ghost use Rattle.productions.specs.Machine.{at_class};
 ghost use Rattle.productions.specs.Meaning.{sofar_of, Steps, Turns};
 
-use crate::draft::{Draft, blank_condition, count};
+use crate::draft::{Draft, blank_condition, count, room};
 use crate::state::{Halt, State, Step};
 use languages::naming::{class_named, field_named};
 use languages::refusal::{Cause, unexpected};
@@ -31,7 +31,7 @@ pub(crate) fn at_pattern(negated: bool, token: &Token) -> Result<Step, Halt>
 {
     match token {
         Token::Open => Ok(Step::Onward(State::Class(negated))),
-        _ => Err(Halt::Refused(unexpected(token))),
+        _ => Err(unexpected(token).into()),
     }
 }
 
@@ -44,7 +44,7 @@ impl Draft {
             Token::Open => self.open_condition(),
             Token::Minus => self.negate_condition(),
             Token::Arrow => Ok(Step::Onward(State::Actions)),
-            _ => Err(Halt::Refused(unexpected(token))),
+            _ => Err(unexpected(token).into()),
         }
     }
 
@@ -52,12 +52,8 @@ impl Draft {
     fn open_condition(&self) -> Result<Step, Halt>
         ensures { (ns : List (List ℕ)) → Turns [] [] ns self.now State.Conditions open' result ns self.now }
     {
-        if self.conditions.len() >= MOST_CONDITIONS {
-            return Err(Halt::Refused(Cause::OverLimit));
-        }
-        if count_unnegated(&self.conditions) >= MOST_UNNEGATED {
-            return Err(Halt::Refused(Cause::OverLimit));
-        }
+        room(self.conditions.len(), MOST_CONDITIONS)?;
+        room(count_unnegated(&self.conditions), MOST_UNNEGATED)?;
         Ok(Step::Onward(State::Class(false)))
     }
 
@@ -65,9 +61,7 @@ impl Draft {
     fn negate_condition(&self) -> Result<Step, Halt>
         ensures { (ns : List (List ℕ)) → Turns [] [] ns self.now State.Conditions minus result ns self.now }
     {
-        if self.conditions.len() >= MOST_CONDITIONS {
-            return Err(Halt::Refused(Cause::OverLimit));
-        }
+        room(self.conditions.len(), MOST_CONDITIONS)?;
         Ok(Step::Onward(State::Negated))
     }
 
@@ -83,7 +77,7 @@ impl Draft {
     {
         match token {
             Token::Symbol(word) => self.begin_condition(negated, word, names, classes),
-            _ => Err(Halt::Refused(unexpected(token))),
+            _ => Err(unexpected(token).into()),
         }
     }
 
@@ -112,7 +106,7 @@ impl Draft {
         match token {
             Token::Hat => Ok(Step::Onward(State::Attribute)),
             Token::Close => self.close_condition(),
-            _ => Err(Halt::Refused(unexpected(token))),
+            _ => Err(unexpected(token).into()),
         }
     }
 
@@ -120,7 +114,7 @@ impl Draft {
     fn close_condition(&mut self) -> Result<Step, Halt>
         ensures { (ns : List (List ℕ)) → Turns [] [] ns self.old State.Pairs close' result ns self.new }
     {
-        let next = blank_condition(self.heap);
+        let next = blank_condition(self.heap());
         self.conditions.push(replace(&mut self.condition, next))?;
         Ok(Step::Onward(State::Conditions))
     }
@@ -131,7 +125,7 @@ impl Draft {
     {
         match token {
             Token::Symbol(word) => self.tested_field(word, names),
-            _ => Err(Halt::Refused(unexpected(token))),
+            _ => Err(unexpected(token).into()),
         }
     }
 

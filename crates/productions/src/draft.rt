@@ -1,5 +1,5 @@
 // A production as far as it was read.
-ghost use Rattle.std.specs.Prelude.{◌≡◌, ◌+◌};
+ghost use Rattle.std.specs.Prelude.{◌≡◌, ◌+◌, ⊤};
 ghost use Rattle.productions.specs.Sofar.{full};
 ghost use Rattle.productions.specs.Meaning.{Judges};
 
@@ -33,7 +33,6 @@ pub(crate) struct Draft {
     pub choice: Vec<Value>,
     pub acting: Acting,
     pub settings: Vec<Setting>,
-    pub heap: Global,
 }
 
 // A condition of which nothing is read.
@@ -45,13 +44,21 @@ pub(crate) fn blank_condition(heap: Global) -> Condition {
     }
 }
 
+// Whether there is room for one more where so many are used, of which there may be this many.
+pub(crate) fn room(used: usize, most: usize) -> Result<(), Cause>
+    ensures { Judges result (full most used) (λ _. ⊤) }
+{
+    if used >= most {
+        return Err(Cause::OverLimit);
+    }
+    Ok(())
+}
+
 // One more of what is counted, of which there may be this many.
 pub(crate) fn count(used: &mut usize, most: usize) -> Result<(), Cause>
     ensures { Judges result (full most used.old) (λ _. used.new ≡ used.old + 1) }
 {
-    if *used >= most {
-        return Err(Cause::OverLimit);
-    }
+    room(*used, most)?;
     *used += 1;
     Ok(())
 }
@@ -70,7 +77,11 @@ impl Draft {
             choice: Vec::new(heap),
             acting: Acting::Make(Class::new(0)),
             settings: Vec::new(heap),
-            heap,
         })
+    }
+
+    // What its lists are allocated from.
+    pub fn heap(&self) -> Global {
+        *self.settings.allocator()
     }
 }

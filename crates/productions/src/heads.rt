@@ -5,7 +5,7 @@ ghost use Rattle.values.specs.Naming.{held};
 ghost use Rattle.rules.specs.Bases.{entering_rules};
 ghost use Rattle.productions.specs.Meaning.{Turns};
 
-use crate::draft::Draft;
+use crate::draft::{Draft, room};
 use crate::state::{Halt, State, Step};
 use languages::refusal::{Cause, unexpected};
 use rules::base::{Entering, MOST_RULES};
@@ -18,7 +18,7 @@ pub(crate) fn at_opening(token: &Token) -> Result<Step, Halt>
 {
     match token {
         Token::Open => Ok(Step::Onward(State::Head)),
-        _ => Err(Halt::Refused(unexpected(token))),
+        _ => Err(unexpected(token).into()),
     }
 }
 
@@ -28,7 +28,7 @@ pub(crate) fn at_head(token: &Token) -> Result<Step, Halt>
 {
     match token {
         Token::Symbol(b"p") => Ok(Step::Onward(State::Name)),
-        _ => Err(Halt::Refused(unexpected(token))),
+        _ => Err(unexpected(token).into()),
     }
 }
 
@@ -44,7 +44,7 @@ impl Draft {
     {
         match token {
             Token::Symbol(word) => self.begin(word, names, base),
-            _ => Err(Halt::Refused(unexpected(token))),
+            _ => Err(unexpected(token).into()),
         }
     }
 
@@ -54,11 +54,9 @@ impl Draft {
     {
         let number = names.intern(word).ok_or(Cause::OverLimit)?;
         if base.has_rule(number) {
-            return Err(Halt::Refused(Cause::WrongName));
+            return Err(Cause::WrongName.into());
         }
-        if base.count() >= MOST_RULES {
-            return Err(Halt::Refused(Cause::OverLimit));
-        }
+        room(base.count(), MOST_RULES)?;
         self.name = number;
         self.conditions.clear();
         self.variables.clear();

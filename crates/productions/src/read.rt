@@ -21,8 +21,8 @@ use values::names::Names;
 use words::text::Words;
 
 impl Draft {
-    // Reads on to the end of a production. Not one with the loop of `reader`: this one fills a draft and can want memory, and a trait for
-    // both would be longer than the two.
+    // Reads on to the end of a production. Not one with the loop of `reader`: this one fills a draft and can want
+    // memory, and a trait for both would be longer than the two.
     fn read(&mut self, words: &mut Words, names: &mut Names, base: &Entering) -> Result<(), Trouble>
         ensures { Reads words.old (held names.old) result (held names.new) self.new words.new (run (turned (entering_classes base.now) (entering_rules base.now)) (at_opening (held names.old)) (rest words.old)) }
     {

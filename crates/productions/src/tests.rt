@@ -105,7 +105,7 @@ impl Draft {
             Token::Variable(word) => self.bare_variable(field, word),
             Token::Test(predicate) => self.open_comparison(field, *predicate),
             Token::OpenChoice => self.open_choice(field),
-            _ => Err(Halt::Refused(unexpected(token))),
+            _ => Err(unexpected(token).into()),
         }
     }
 
@@ -120,7 +120,7 @@ impl Draft {
         ensures { Turns [] [] (held names.old) self.old (State.Operand field predicate) (symbol word.now) result (held names.new) self.new }
     {
         if is_ordering(predicate) {
-            return Err(Halt::Refused(Cause::UnexpectedWord));
+            return Err(Cause::UnexpectedWord.into());
         }
         let number = names.intern(word).ok_or(Cause::OverLimit)?;
         self.add_test(field, Test::Compare(predicate, Value::Symbol(number)))
@@ -159,7 +159,7 @@ impl Draft {
             ),
             Token::Symbol(word) => self.compared_symbol(field, predicate, word, names),
             Token::Variable(word) => self.compared_variable(field, predicate, word),
-            _ => Err(Halt::Refused(unexpected(token))),
+            _ => Err(unexpected(token).into()),
         }
     }
 
@@ -191,7 +191,7 @@ impl Draft {
             Token::Minus => self.chosen_symbol(field, b"-", names),
             Token::Arrow => self.chosen_symbol(field, b"-->", names),
             Token::OpenChoice => self.chosen_symbol(field, b"<<", names),
-            _ => Err(Halt::Refused(unexpected(token))),
+            _ => Err(unexpected(token).into()),
         }
     }
 
@@ -212,7 +212,8 @@ impl Draft {
     fn close_choice(&mut self, field: Place) -> Result<Step, Halt>
         ensures { (ns : List (List ℕ)) → Turns [] [] ns self.old (State.Choices field) close_choice result ns self.new }
     {
-        let constants = replace(&mut self.choice, Vec::new(self.heap));
+        let next = Vec::new(self.heap());
+        let constants = replace(&mut self.choice, next);
         self.add_test(field, Test::Choice(constants))
     }
 

@@ -1,5 +1,5 @@
-// What each word does to the production that is being read. The word and the names are two parameters throughout: a struct that borrows
-// both for one call would say no more.
+// What each word does to the production that is being read. The word and the names are two parameters throughout: a
+// struct that borrows both for one call would say no more.
 ghost use Rattle.words.specs.Kinds.{kind_of};
 ghost use Rattle.values.specs.Naming.{held};
 ghost use Rattle.rules.specs.Bases.{entering_classes, entering_rules};
