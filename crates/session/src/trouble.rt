@@ -1,38 +1,20 @@
 // What keeps a session from running.
 use std::alloc::AllocError;
-use std::{fmt, io};
+use std::io;
+use thiserror::Error;
 
-#[derive(Drop)]
+#[derive(Debug, Drop, Error)]
 pub(crate) enum Trouble {
-    // The arguments cannot be read.
+    #[error("cannot read the arguments: {0}")]
     Arguments(io::Error),
-    // There are more arguments than the name of one file.
+    #[error("too many arguments: name one file, or none")]
     TooManyArguments,
-    // Standard input cannot be read.
+    #[error("cannot read standard input: {0}")]
     Input(io::Error),
-    // The named file cannot be read.
+    #[error("cannot read {0}: {1}")]
     File(String, io::Error),
-    // There is not memory enough.
-    NoMemory,
-    // Standard output cannot be written.
+    #[error("out of memory")]
+    NoMemory(#[from(alloc)] AllocError),
+    #[error("cannot write: {0}")]
     Unwritten(io::Error),
-}
-
-impl From<AllocError> for Trouble {
-    fn from(_error: AllocError) -> Trouble {
-        Trouble::NoMemory
-    }
-}
-
-impl fmt::Display for Trouble {
-    fn fmt<W: fmt::Write>(&self, f: &mut fmt::Formatter<W>) -> fmt::Result {
-        match self {
-            Trouble::Arguments(error) => write!(f, "cannot read the arguments: {error}"),
-            Trouble::TooManyArguments => f.write_str("too many arguments: name one file, or none"),
-            Trouble::Input(error) => write!(f, "cannot read standard input: {error}"),
-            Trouble::File(name, error) => write!(f, "cannot read {name}: {error}"),
-            Trouble::NoMemory => f.write_str("out of memory"),
-            Trouble::Unwritten(error) => write!(f, "cannot write: {error}"),
-        }
-    }
 }
