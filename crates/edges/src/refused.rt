@@ -1,6 +1,6 @@
 // A refused form leaves the names, the classes and the words as they were.
-use reader::read::{read_command, read_declaration};
 use languages::refusal::Refusal;
+use reader::read::{read_command, read_declaration};
 use rules::base::Declaring;
 use std::alloc::AllocGlobal;
 use std::process::Abort;
