@@ -1,4 +1,4 @@
-// Forms that are cut off.
+// Forms that are cut off. The tests of productions have their own: they drive another call, over another table.
 use crate::expect::*;
 use std::alloc::AllocGlobal;
 use std::process::Abort;

@@ -1,4 +1,5 @@
-// A production that is cut off after any byte.
+// A production that is cut off after any byte. The tests of the session have their own: they drive another call, over
+// another table.
 use crate::expect::*;
 use crate::marks::*;
 use std::alloc::AllocGlobal;
