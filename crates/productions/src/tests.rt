@@ -64,7 +64,8 @@ impl Draft {
         self.add_bare_test(field, Test::Constant(Value::Symbol(number)))
     }
 
-    // A variable as a test may be met first there.
+    // A variable as a test may be met first there. What `meet` is told is written out here and below: a method for it would
+    // have to say that nothing else of the draft changes.
     fn bare_variable(&mut self, field: Place, word: &[u8]) -> Result<Step, Halt>
         ensures { (ns : List (List ℕ)) → Turns [] [] ns self.old (State.Test field) (variable word.now) result ns self.new }
     {
