@@ -1,6 +1,6 @@
 // A refused form leaves the names, the classes and the words as they were.
-use reader::read::{read_command, read_declaration};
 use languages::refusal::Refusal;
+use reader::read::{read_command, read_declaration};
 use rules::base::Declaring;
 use std::alloc::AllocGlobal;
 use std::process::Abort;
@@ -60,7 +60,7 @@ const COMMANDS: [Refused; 8] = [
 
 // The answer is the refusal with this number at this place.
 fn expect_refusal<T: Drop>(
-    rt: &(impl Abort + AllocGlobal),
+    rt: &impl Abort,
     text: &[u8],
     answer: Result<T, Refusal>,
     number: u8,
