@@ -43,7 +43,8 @@ fn alone(byte: u8) -> &'static [u8] {
     }
 }
 
-// What `(literalize a_b)(make a)(wm)` prints with this byte in place of `_`. Its class is `a` if the byte ends the word.
+// What `(literalize a_b)(make a)(wm)` prints with this byte in place of `_`. Its class is `a` if the byte ends the
+// word.
 fn within(byte: u8) -> &'static [u8] {
     match byte {
         b' ' | b'\t' | b'\r' | b'\n' => b"1: (a)\n",

@@ -5,8 +5,8 @@ use std::process::Abort;
 use std::test::Fail;
 use texts::*;
 
-// A word of a form, from its first byte to past its last, of which no proper beginning may stand there: such a beginning
-// is refused by this number.
+// A word of a form, from its first byte to past its last, of which no proper beginning may stand there: such a
+// beginning is refused by this number.
 type Wrong = (usize, usize, u8);
 
 // What comes before a form, the form, its words of this kind, and what it prints if it is whole.
@@ -17,8 +17,8 @@ type Form = (
     &'static [u8],
 );
 
-// A beginning of a head is another head, and one of the class or of an attribute of a make is another name. `<` and `<=`
-// are no values, and `-` is no tag.
+// A beginning of a head is another head, and one of the class or of an attribute of a make is another name. `<` and
+// `<=` are no values, and `-` is no tag.
 const FORMS: [Form; 9] = [
     (b"", b"(literalize row id state)", &[(1, 11, 2)], b""),
     (
@@ -71,15 +71,13 @@ const FORMS: [Form; 9] = [
     ),
 ];
 
-// The refusal of a form that is cut off at a place inside it. It breaks at the end of the text, unless the word that was
-// cut is itself wrong.
+// The refusal of a form that is cut off at a place inside it. It breaks at the end of the text, unless the word that
+// was cut is itself wrong.
 fn refusal_of(cut: usize, words: &[Wrong]) -> (u8, usize) {
-    for (start, end, number) in words {
-        if *start < cut && cut < *end {
-            return (*number, *start);
-        }
-    }
-    (2, cut)
+    words
+        .iter()
+        .find(|(start, end, _)| *start < cut && cut < *end)
+        .map_or((2, cut), |(start, _, number)| (*number, *start))
 }
 
 // The form is refused if it is cut off after any byte but its last.

@@ -1,6 +1,6 @@
 // What a text is expected to print.
 use console::run::run;
-use std::alloc::{AllocError, AllocGlobal, Global};
+use std::alloc::AllocGlobal;
 use std::process::Abort;
 use std::test::Fail;
 use texts::*;
@@ -34,15 +34,7 @@ pub(crate) fn expect_after(
     let heap = rt.alloc();
     for (text, printed) in cases {
         let whole = joined(heap, before, text)?;
-        let got = run(heap, &whole)?;
-        assert!(rt;
-            got.as_slice() == *printed,
-            "{}; {}; {}; {}",
-            format_args!("the text {}", whole.escape_ascii()),
-            format_args!("prints {}", got.escape_ascii()),
-            format_args!("and not {}", printed.escape_ascii()),
-            format_args!("at the end {}", text.escape_ascii())
-        );
+        expect(rt, &whole, printed)?;
     }
     Ok(())
 }

@@ -1,6 +1,5 @@
 // Limits: the bytes of a name, the names, and the bytes of a text.
 use crate::expect::*;
-use std::alloc::{AllocError, Global};
 use std::test::Fail;
 use texts::*;
 

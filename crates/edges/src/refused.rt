@@ -61,7 +61,7 @@ const COMMANDS: [Refused; 8] = [
 
 // The answer is the refusal with this number at this place.
 fn expect_refusal<T: Drop>(
-    rt: &(impl Abort + AllocGlobal),
+    rt: &impl Abort,
     text: &[u8],
     answer: Result<T, Refusal>,
     number: u8,

@@ -1,7 +1,6 @@
 // A production that is cut off after any byte. The tests of the session have their own: they drive another call, over
 // another table.
 use crate::expect::*;
-use crate::marks::*;
 use std::alloc::AllocGlobal;
 use std::process::Abort;
 use std::test::Fail;
@@ -17,8 +16,9 @@ const PRODUCTION: &[u8] =
 // than so many.
 type Wrong = (usize, usize, usize, u8);
 
-// A beginning of a class or an attribute is another name, and one of an action's head is another head. `<` and `<v` cannot
-// stand behind `>`. `-` is taken in place of `-->`, but `--` is not. `-` is no value. All other beginnings are taken.
+// A beginning of a class or an attribute is another name, and one of an action's head is another head. `<` and `<v`
+// cannot stand behind `>`. `-` is taken in place of `-->`, but `--` is not. `-` is no value. All other beginnings are
+// taken.
 const WRONG: [Wrong; 15] = [
     (9, 1, 3, 3),
     (14, 1, 2, 3),
@@ -37,15 +37,15 @@ const WRONG: [Wrong; 15] = [
     (120, 1, 4, 2),
 ];
 
-// The refusal of the production where it is cut off: at the end of the text, unless the word that was cut is itself wrong.
+// The refusal of the production where it is cut off: at the end of the text, unless the word that was cut is itself
+// wrong.
 fn refusal_of(cut: usize) -> (u8, usize) {
-    for (start, shortest, whole, number) in &WRONG {
-        let bytes = cut.saturating_sub(*start);
-        if *shortest <= bytes && bytes < *whole {
-            return (*number, *start);
-        }
-    }
-    (2, cut)
+    WRONG
+        .iter()
+        .find(|(start, shortest, whole, _)| {
+            (*shortest..*whole).contains(&cut.saturating_sub(*start))
+        })
+        .map_or((2, cut), |(start, _, _, number)| (*number, *start))
 }
 
 fn expect_cuts(rt: &(impl Abort + AllocGlobal), production: &[u8]) -> Result<(), Fail> {

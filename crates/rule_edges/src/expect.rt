@@ -22,8 +22,8 @@ pub(crate) struct Reading<'a> {
     pub base: Entering,
 }
 
-// What a call answers: whether it took a production, or the refusal's number and place. An enum of the three, since tables tell them
-// apart by name.
+// What a call answers: whether it took a production, or the refusal's number and place. An enum of the three, since
+// tables tell them apart by name.
 #[derive(Clone, Copy, PartialEq, Eq, Debug)]
 pub(crate) enum Answer {
     Taken,

@@ -1,7 +1,7 @@
 // The longest texts.
 use crate::expect::*;
-use crate::marks::*;
 use rules::base::Declaring;
+use rules::size::Size;
 use std::alloc::AllocGlobal;
 use std::process::Abort;
 use std::test::Fail;
@@ -40,10 +40,13 @@ fn longest_text(rt: HostRuntime) -> Result<(), Fail> {
     let longest = stretched(heap, &all, b' ', b"", 32768)?;
     expect_taken(&rt, &longest, 64)?;
     let reading = taken(&rt, &longest)?;
-    let size = reading.base.size();
     assert_eq!(rt;
-        (size.tests, size.constants, size.settings),
-        (448, 128, 128)
+        reading.base.size(),
+        Size {
+            tests: 448,
+            constants: 128,
+            settings: 128,
+        }
     );
     // `nil`, the class, two attributes, two constants and 64 productions.
     assert_eq!(rt; reading.names.count(), 70);

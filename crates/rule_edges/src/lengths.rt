@@ -1,6 +1,5 @@
 // How many bytes a symbol and a variable may have.
 use crate::expect::*;
-use crate::marks::*;
 use std::alloc::AllocGlobal;
 use std::process::Abort;
 use std::test::Fail;

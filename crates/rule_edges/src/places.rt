@@ -27,7 +27,8 @@ const ILLEGAL: [&[u8]; 12] = [
     b"\xff",
 ];
 
-// What a word does: it leads on, it makes the production whole, or it is refused by a number. An enum of the three, as for a whole call.
+// What a word does: it leads on, it makes the production whole, or it is refused by a number. An enum of the three, as
+// for a whole call.
 #[derive(Clone, Copy)]
 enum Effect {
     LeadsOn,
@@ -202,36 +203,25 @@ const ACTIONS: [Place; 30] = [
     (b"(p a (c) --> (halt) (modify ", Follows::Element),
 ];
 
-fn is_among(word: &[u8], words: &[&[u8]]) -> bool {
-    for one in words {
-        if *one == word {
-            return true;
-        }
-    }
-    false
-}
-
 // Whether the word leads on.
 fn leads_on(word: &[u8], follows: Follows) -> bool {
     match follows {
-        Follows::Name => is_among(word, &SYMBOLS),
-        Follows::Opening | Follows::Actions => word == b"(".as_slice(),
-        Follows::Closing => word == b")".as_slice(),
-        Follows::Class => word == b"c".as_slice(),
-        Follows::Pairs => word == b"^".as_slice() || word == b")".as_slice(),
-        Follows::Attribute => word == b"x".as_slice(),
-        Follows::Test => is_among(word, &TESTS),
-        Follows::UnmetTest => is_among(word, &TESTS) && word != b"<v>".as_slice(),
-        Follows::Operand => is_among(word, &OPERANDS),
-        Follows::UnmetOperand => is_among(word, &OPERANDS) && word != b"<v>".as_slice(),
-        Follows::Number => is_among(word, &NUMBERS),
-        Follows::UnmetNumber => word == b"7".as_slice(),
-        Follows::Choice => is_among(word, &CHOICE),
-        Follows::Choices => is_among(word, &CHOICE) || word == b">>".as_slice(),
-        Follows::Conditions => word == b"(".as_slice()
-            || word == b"-".as_slice()
-            || word == b"-->".as_slice(),
-        Follows::Head => word == b"make".as_slice(),
+        Follows::Name => SYMBOLS.contains(&word),
+        Follows::Opening | Follows::Actions => matches!(word, b"("),
+        Follows::Closing => matches!(word, b")"),
+        Follows::Class => matches!(word, b"c"),
+        Follows::Pairs => matches!(word, b"^" | b")"),
+        Follows::Attribute => matches!(word, b"x"),
+        Follows::Test => TESTS.contains(&word),
+        Follows::UnmetTest => TESTS.contains(&word) && !matches!(word, b"<v>"),
+        Follows::Operand => OPERANDS.contains(&word),
+        Follows::UnmetOperand => OPERANDS.contains(&word) && !matches!(word, b"<v>"),
+        Follows::Number => NUMBERS.contains(&word),
+        Follows::UnmetNumber => matches!(word, b"7"),
+        Follows::Choice => CHOICE.contains(&word),
+        Follows::Choices => CHOICE.contains(&word) || matches!(word, b">>"),
+        Follows::Conditions => matches!(word, b"(" | b"-" | b"-->"),
+        Follows::Head => matches!(word, b"make"),
         Follows::Element => false,
     }
 }
@@ -239,10 +229,10 @@ fn leads_on(word: &[u8], follows: Follows) -> bool {
 // The number by which a word is refused that does not lead on.
 fn breaks(word: &[u8], follows: Follows) -> u8 {
     match follows {
-        Follows::Class | Follows::Attribute if is_among(word, &SYMBOLS) => 3,
+        Follows::Class | Follows::Attribute if SYMBOLS.contains(&word) => 3,
         Follows::UnmetTest | Follows::UnmetOperand | Follows::UnmetNumber
-            if word == b"<v>".as_slice() => 4,
-        Follows::Element if word == b"7".as_slice() => 5,
+            if matches!(word, b"<v>") => 4,
+        Follows::Element if matches!(word, b"7") => 5,
         _ => 2,
     }
 }
@@ -252,7 +242,7 @@ fn effect_of(word: &[u8], follows: Follows) -> Effect {
         return Effect::LeadsOn;
     }
     match follows {
-        Follows::Actions if word == b")".as_slice() => Effect::Completes,
+        Follows::Actions if matches!(word, b")") => Effect::Completes,
         _ => Effect::Breaks(breaks(word, follows)),
     }
 }

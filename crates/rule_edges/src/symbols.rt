@@ -1,6 +1,5 @@
 // How many names there may be.
 use crate::expect::*;
-use crate::marks::*;
 use std::test::Fail;
 use texts::*;
 

@@ -1,6 +1,7 @@
 // The limits of all productions together: tests, constants of choices and settings.
 use crate::expect::*;
 use crate::marks::*;
+use rules::size::Size;
 use std::test::Fail;
 use texts::*;
 
@@ -243,10 +244,13 @@ fn productions_together(rt: HostRuntime) -> Result<(), Fail> {
     let rules = numbered(heap, EIGHTH, 0..64)?;
     let whole = joined(heap, CLASSES, &rules)?;
     let reading = taken(&rt, &whole)?;
-    let size = reading.base.size();
     assert_eq!(rt;
-        (size.tests, size.constants, size.settings),
-        (512, 256, 256)
+        reading.base.size(),
+        Size {
+            tests: 512,
+            constants: 256,
+            settings: 256,
+        }
     );
     assert_eq!(rt; reading.base.count(), 64);
     let fewer = numbered(heap, EIGHTH, 0..63)?;
