@@ -13,7 +13,8 @@ use facts::traits::Memory;
 use reader::form::Command;
 use std::alloc::AllocError;
 
-// Removes the element with a time tag. A number below 1 counts as a tag that no element has.
+// Removes the element with a time tag. A number below 1 counts as a tag that no element has, so one test serves for 0
+// and for what is below.
 fn remove<M: Memory>(memory: &mut M, tag: i32) -> Result<(), MemoryRefusal>
     ensures answer { result ≡ answer_removing (meant M.Facts.facts M.Memory.last M.Memory.room memory.old) tag }
     ensures after { meant M.Facts.facts M.Memory.last M.Memory.room memory.new ≡ after_removing (meant M.Facts.facts M.Memory.last M.Memory.room memory.old) tag }

@@ -34,6 +34,7 @@ pub(crate) fn class_at<F: Facts>(facts: &F, place: usize) -> u8
     }
 }
 
+// Written piece by piece and not displayed, since names are bytes and need not be text.
 impl Legend<'_> {
     // The name of a symbol; nothing where it has none.
     fn write_name(&self, page: &mut Page, symbol: u8) -> Result<(), AllocError>

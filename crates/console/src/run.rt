@@ -1,4 +1,5 @@
-// A session from the bytes of its text to the bytes that it prints.
+// A session from the bytes of its text to the bytes that it prints. Words, names and base are lent apart, as the reader
+// takes them.
 ghost use Rattle.std.specs.Prelude.{◌≡◌, length, IfOk, OnOk};
 ghost use Rattle.words.specs.Words.{rest, text_of};
 ghost use Rattle.values.specs.Elements.{fields_of, blank};

@@ -1,5 +1,5 @@
-// A refused form leaves the names, the classes and the words as they were. Declarations and commands are driven apart: the
-// calls, and the bases that they take, differ. A refusal's number and place are apart, as the tables have them.
+// A refused form leaves the names, the classes and the words as they were. Declarations and commands are driven apart:
+// the calls, and the bases that they take, differ. A refusal's number and place are apart, as the tables have them.
 use languages::refusal::Refusal;
 use reader::read::{read_command, read_declaration};
 use rules::base::Declaring;

@@ -25,7 +25,8 @@ pub(crate) const MOST_CONDITIONS: usize = 8;
 
 pub(crate) const MOST_UNNEGATED: usize = 6;
 
-// `(` of a condition whose sign is known: of the first one, or after `-`.
+// `(` of a condition whose sign is known: of the first one, or after `-`. `at_opening` is apart: one function given the
+// next state would need a clause over any state.
 pub(crate) fn at_pattern(negated: bool, token: &Token) -> Result<Step, Halt>
     ensures { (ns : List (List ℕ)) (d : Draft) → Steps ns result ns d (on_open (onward (at_class (sofar_of ns d) negated)) refuse (sense (kind_of token.now))) }
 {
@@ -129,7 +130,7 @@ impl Draft {
         }
     }
 
-    // The same, where it is a symbol: it is only looked up.
+    // The same, where it is a symbol: it is only looked up, by what `set_field` of actions shares.
     fn tested_field(&self, word: &[u8], names: &Names) -> Result<Step, Halt>
         ensures { Turns [] [] (held names.now) self.now State.Attribute (symbol word.now) result (held names.now) self.now }
     {

@@ -1,4 +1,4 @@
-// The words of a production up to its name.
+// The words of a production up to its name. They lead to states of this crate, so `reader` has functions of its own.
 ghost use Rattle.std.specs.Prelude.{ℕ, List, []};
 ghost use Rattle.words.specs.Kinds.{kind_of, symbol};
 ghost use Rattle.values.specs.Naming.{held};

@@ -42,7 +42,7 @@ impl Draft {
     }
 }
 
-// Reads a production as a draft; where there is none, neither the words nor the names move.
+// Reads a production as a draft; where there is none, neither the words nor the names move. Of its own, as the loop is.
 fn read_draft(
     words: &mut Words,
     names: &mut Names,

@@ -57,8 +57,8 @@ pub(crate) enum State {
     Value(Place),
 }
 
-// What a word does that is taken: it leads on, or it ends the production. An enum of its own: a `None` would not say that
-// it is whole.
+// What a word does that is taken: it leads on, or it ends the production. An enum of its own: a `None` would not say
+// that it is whole.
 #[derive(Clone, Copy)]
 pub(crate) enum Step {
     Onward(State),

@@ -1,4 +1,4 @@
-// The words of tests.
+// The words of tests. The field is handed on, since it is part of the state and not of the draft.
 ghost use Rattle.std.specs.Prelude.{◌≡◌, ℕ, List, [], ◌∷◌, ◌++◌};
 ghost use Rattle.words.specs.Kinds.{kind_of, open_choice, close_choice, test, variable, symbol};
 ghost use Rattle.values.specs.Naming.{held};
@@ -64,8 +64,8 @@ impl Draft {
         self.add_bare_test(field, Test::Constant(Value::Symbol(number)))
     }
 
-    // A variable as a test may be met first there. What `meet` is told is written out here and below: a method for it would
-    // have to say that nothing else of the draft changes.
+    // A variable as a test may be met first there. What `meet` is told is written out here and below: a method for it
+    // would have to say that nothing else of the draft changes.
     fn bare_variable(&mut self, field: Place, word: &[u8]) -> Result<Step, Halt>
         ensures { (ns : List (List ℕ)) → Turns [] [] ns self.old (State.Test field) (variable word.now) result ns self.new }
     {
@@ -75,7 +75,7 @@ impl Draft {
         self.add_bare_test(field, Test::Variable(place))
     }
 
-    // A predicate begins a test.
+    // A predicate begins a test. Apart from `open_choice`: the clause of each is the turn of the state at its own word.
     fn open_comparison(&mut self, field: Place, predicate: Predicate) -> Result<Step, Halt>
         ensures { (ns : List (List ℕ)) → Turns [] [] ns self.old (State.Test field) (test predicate) result ns self.new }
     {

@@ -2,7 +2,8 @@
 use rules::class::Class;
 use values::element::Element;
 
-// Which forms a text may have next: declarations come first, then commands.
+// Which forms a text may have next: declarations come first, then commands. A value, since a type for each phase would
+// need a reader for each.
 #[derive(Clone, Copy, PartialEq, Eq)]
 pub enum Phase {
     Declaring,

@@ -18,7 +18,7 @@ use rules::classes::Classes;
 use values::names::Names;
 use words::text::Words;
 
-// Reads on to the end of a form.
+// Reads on to the end of a form. `productions` has a loop of its own, which fills a draft and can want memory.
 fn read_words(
     phase: Phase,
     words: &mut Words,

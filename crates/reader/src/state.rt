@@ -36,7 +36,8 @@ pub(crate) enum State {
     Closing(Command),
 }
 
-// What a word does that is not refused: it leads on, or it ends the form. An enum of its own, since it says so by name.
+// What a word does that is not refused: it leads on, or it ends the form. An enum of its own: both outcomes carry
+// something, and neither is an error.
 #[derive(Clone, Copy)]
 pub(crate) enum Step {
     Onward(State),

@@ -67,6 +67,7 @@ fn at_class_name(token: &Token, names: &mut Names, classes: &Classes) -> Result<
             if classes.find(number).is_some() {
                 return Err(Cause::WrongName);
             }
+            // The one limit of this crate, so written out.
             if classes.count() >= MOST_CLASSES {
                 return Err(Cause::OverLimit);
             }

@@ -1,13 +1,11 @@
 // Rows that are filled up to their last place, and emptied.
 use crate::few::{Few, Full};
 use crate::short::Short;
+use std::test::Fail;
 
 #[test]
-fn fills_a_row(rt: HostRuntime) {
-    let made: Result<Few<u8, 2>, _> = Few::new(rt.alloc());
-    let Ok(mut row) = made else {
-        panic!(rt; "no memory");
-    };
+fn fills_a_row(rt: HostRuntime) -> Result<(), Fail> {
+    let mut row: Few<u8, 2> = Few::new(rt.alloc())?;
     assert_eq!(rt; row.len(), 0);
     assert_eq!(rt; row.push(7), Ok(()));
     assert_eq!(rt; row.push(8), Ok(()));
@@ -17,6 +15,7 @@ fn fills_a_row(rt: HostRuntime) {
     assert_eq!(rt; row.as_slice(), [7].as_slice());
     row.clear();
     assert_eq!(rt; row.len(), 0);
+    Ok(())
 }
 
 #[test]

@@ -133,7 +133,7 @@ pub(crate) fn expect_taken(
     Ok(())
 }
 
-// The text is refused by this number at this place.
+// The text is refused by this number at this place. The two are apart, as the tables have them.
 pub(crate) fn expect_refused(
     rt: &(impl Abort + AllocGlobal),
     text: &[u8],

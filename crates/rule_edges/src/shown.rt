@@ -112,7 +112,7 @@ pub(crate) fn show_rules(heap: Global, rules: &[Rule]) -> Result<String, AllocEr
     Ok(text)
 }
 
-// The names from this number on, with a space before each.
+// The names from this number on, with a space before each. In bytes, since names need not be text.
 pub(crate) fn show_names(heap: Global, names: &Names, first: u8) -> Result<Vec<u8>, AllocError> {
     let mut text = Vec::new(heap);
     for number in first..=255 {

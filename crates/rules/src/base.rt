@@ -1,5 +1,7 @@
 // The states of a rule base: classes are declared, then rules are entered, then it is sealed. Each move uses up the
 // state before it and cannot refuse, so a class cannot be declared late, and nothing can be entered into a sealed base.
+// Each state has getters of its own: one type over a state could not keep what only the first does, that no rule is
+// entered.
 ghost use Rattle.std.specs.Prelude.{◌≡◌, []};
 
 use crate::classes::Classes;

@@ -4,8 +4,8 @@ use crate::place::Place;
 use values::value::Value;
 use words::token::Predicate;
 
-// What is asked of one value. A variable goes by its number in the rule. Five cases, and no term inside two of three:
-// who matches looks at one enum.
+// What is asked of one value. A variable goes by its number in the rule. Five cases, and no
+// term inside them, so that who matches looks at one enum.
 #[derive(Drop)]
 pub enum Test {
     // to be this value

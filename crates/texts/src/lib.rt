@@ -56,6 +56,7 @@ pub fn stretched(
 {
     let gap = whole.saturating_sub(begin.len()).saturating_sub(end.len());
     let mut text = begin.to_vec(heap)?;
+    // A loop, since the library's `repeat` speaks of clones and not of bytes.
     for _ in 0..gap {
         text.push(filler)?;
     }

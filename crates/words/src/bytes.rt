@@ -14,6 +14,7 @@ pub(crate) enum Class {
     Strange,
 }
 
+// What a byte is. A function by its name, which the proofs speak of, and no `From`.
 pub(crate) fn class_of(byte: u8) -> Class
     ensures { result ≡ class_of byte }
 {

@@ -20,6 +20,7 @@ fn is_variable(word: &[u8]) -> bool
     matches!(word, [b'<', _, .., b'>'])
 }
 
+// The predicate that a word spells. An Option, since a word that spells none is no error.
 fn predicate_of(word: &[u8]) -> Option<Predicate>
     ensures predicate { result ≡ predicate_of word.now }
     ensures bytes { IfSome result (λ p. predicate p ≡ word.now) }

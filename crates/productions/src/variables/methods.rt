@@ -30,7 +30,8 @@ impl Variables {
         self.list.clear();
     }
 
-    // The place of a variable that was met.
+    // The place of a variable that was met. As in `Names`, over a row of other things: one function for both would need
+    // a trait of what has a name.
     fn place_of(&self, word: &[u8]) -> Option<usize>
         ensures place { result ≡ first_from (λ v. bytes_eq (spelling v.name) word.now) 0 self.now.list }
         ensures inside { IfSome result (λ place. place < length self.now.list) }

@@ -1,5 +1,4 @@
-// Reading a base that stands. Each state has getters of its own: one base over a state would need the invariants, which
-// differ, as a law of the states.
+// Reading a base that stands.
 ghost use Rattle.std.specs.Prelude.{◌≡◌};
 ghost use Rattle.rules.specs.Declarations.{classes_of};
 ghost use Rattle.rules.specs.Ruled.{rules_of};

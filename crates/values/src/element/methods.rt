@@ -15,7 +15,8 @@ impl Element {
         Element { fields }
     }
 
-    // Sets a field; a number past the last field sets none.
+    // Sets a field; a number past the last field sets none. By an index: after a write through `get_mut` nothing is
+    // known of the array.
     pub fn set(&mut self, field: usize, value: Value)
         ensures { fields_of self.new ≡ slice_set (fields_of self.old) field value }
     {

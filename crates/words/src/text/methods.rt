@@ -48,6 +48,7 @@ impl<'a> Words<'a> {
     {
         let text = self.text;
         let mut state = State::Between;
+        // By places, since a word is told by the places of its ends.
         for at in self.at..text.len() {
             match state.turn(class_of(text[at]), at) {
                 Turn::Pass => {}
