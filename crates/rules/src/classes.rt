@@ -1,4 +1,6 @@
 // The declared classes of a rule base.
+ghost use Rattle.std.specs.Prelude.{◌≤◌, length};
+
 use crate::class::Class;
 use rows::few::Few;
 
@@ -9,6 +11,7 @@ pub const MOST_CLASSES: usize = 16;
 #[derive(Drop)]
 pub struct Classes {
     list: Few<Class, MOST_CLASSES>,
+    ghost few: { length list ≤ 16 },
 }
 
 mod methods;

@@ -1,5 +1,5 @@
 // The rules of a base.
-ghost use Rattle.std.specs.Prelude.{◌≡◌, false};
+ghost use Rattle.std.specs.Prelude.{◌≡◌, ◌≤◌, false, length};
 ghost use Rattle.rules.specs.Ruled.{rules_of};
 ghost use Rattle.rules.specs.Sizes.{size_meant, size_of_all, excessive};
 
@@ -13,6 +13,7 @@ use rows::few::Few;
 pub(crate) struct Rules {
     list: Few<Rule, MOST_RULES>,
     size: Size,
+    ghost few: { length list ≤ 64 },
     ghost counted: { size_meant size ≡ size_of_all (rules_of list) },
     ghost roomy: { excessive (size_of_all (rules_of list)) ≡ false },
 }

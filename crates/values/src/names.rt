@@ -1,5 +1,5 @@
 // The names of all symbols, numbered by first use.
-ghost use Rattle.std.specs.Prelude.{◌≡◌, [], map, codes, slice_index_or};
+ghost use Rattle.std.specs.Prelude.{◌≡◌, ◌≤◌, [], length, map, codes, slice_index_or};
 ghost use Rattle.values.specs.Spelling.{spelling, Distinct};
 
 use crate::name::Name;
@@ -12,6 +12,7 @@ pub const MOST_NAMES: usize = 256;
 #[derive(Drop)]
 pub struct Names {
     list: Few<Name, MOST_NAMES>,
+    ghost few: { length list ≤ 256 },
     ghost nil: { slice_index_or (map spelling list) 0 [] ≡ codes "nil" },
     ghost distinct: { Distinct (map spelling list) },
 }
