@@ -7,6 +7,7 @@ use std::alloc::{AllocError, Global};
 use std::fmt;
 use values::names::Names;
 use values::value::Value;
+use words::token::Predicate;
 
 // A part of a base, as it shows.
 #[derive(Clone, Copy)]
@@ -30,18 +31,33 @@ impl fmt::Display for Shown<Term> {
     }
 }
 
+// Spelled here once more, and not by the predicate's own bytes, so that a test sees which predicate a word was read
+// as.
+impl fmt::Display for Shown<Predicate> {
+    fn fmt<W: fmt::Write>(&self, f: &mut fmt::Formatter<W>) -> fmt::Result {
+        f.write_str(match self.0 {
+            Predicate::Equal => "=",
+            Predicate::Unequal => "<>",
+            Predicate::Less => "<",
+            Predicate::AtMost => "<=",
+            Predicate::Greater => ">",
+            Predicate::AtLeast => ">=",
+            Predicate::SameKind => "<=>",
+        })
+    }
+}
+
 impl fmt::Display for Shown<&Test> {
     fn fmt<W: fmt::Write>(&self, f: &mut fmt::Formatter<W>) -> fmt::Result {
         match self.0 {
             Test::Constant(value) => write!(f, "{}", Shown(*value)),
             Test::Variable(place) => write!(f, "{}", Shown(Term::Variable(*place))),
             Test::Compare(predicate, value) => {
-                let relation = predicate.bytes().escape_ascii();
-                write!(f, "{relation} {}", Shown(*value))
+                write!(f, "{} {}", Shown(*predicate), Shown(*value))
             }
             Test::CompareVariable(predicate, place) => {
-                let relation = predicate.bytes().escape_ascii();
-                write!(f, "{relation} {}", Shown(Term::Variable(*place)))
+                let operand = Term::Variable(*place);
+                write!(f, "{} {}", Shown(*predicate), Shown(operand))
             }
             Test::Choice(constants) => {
                 f.write_str("<<")?;
