@@ -31,10 +31,13 @@ fn read_words(
     let mut state = State::Opening(phase);
     while let Some(word) = words.next() {
         let place = word.place;
-        let turned = state.turn(&word.token, names, classes);
-        match turned.map_err(|cause| Refusal { cause, place })? {
-            Step::Onward(next) => state = next,
-            Step::Whole(form) => return Ok(form),
+        // A match, since `map_err(..)?` would copy each state twice more.
+        match state.turn(&word.token, names, classes) {
+            Ok(step) => match step {
+                Step::Onward(next) => state = next,
+                Step::Whole(form) => return Ok(form),
+            },
+            Err(cause) => return Err(Refusal { cause, place }),
         }
     }
     Err(Refusal {
