@@ -106,23 +106,26 @@ impl Legend<'_> {
     }
 }
 
-// The line of a memory's refusal: `refused NUMBER memory - -`.
+// The line of a memory's refusal: `refused NUMBER memory - -`. In pieces, here and below: shown as one, a line would
+// ask for memory three times more.
 pub(crate) fn write_memory_refusal(
     page: &mut Page,
     refusal: MemoryRefusal,
 ) -> Result<(), AllocError>
     ensures { OnOk result (page.new ≡ page.old ++ memory_refused refusal) }
 {
-    page.show(format_args!("refused {} memory - -\n", refusal.number()))
+    page.write(b"refused ")?;
+    page.show(refusal.number())?;
+    page.write(b" memory - -\n")
 }
 
 // The line of a reader's refusal: `refused NUMBER reader PLACE`.
 pub(crate) fn write_reader_refusal(page: &mut Page, refusal: Refusal) -> Result<(), AllocError>
     ensures { OnOk result (page.new ≡ page.old ++ reader_refused refusal) }
 {
-    page.show(format_args!(
-        "refused {} reader {}\n",
-        refusal.cause.number(),
-        refusal.place
-    ))
+    page.write(b"refused ")?;
+    page.show(refusal.cause.number())?;
+    page.write(b" reader ")?;
+    page.show(refusal.place)?;
+    page.write(b"\n")
 }
