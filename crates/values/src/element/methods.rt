@@ -29,6 +29,9 @@ impl Element {
     pub fn value(&self, field: usize) -> Value
         ensures { result ≡ slice_index_or (fields_of self.now) field nil }
     {
-        self.fields.get(field).copied().unwrap_or(NIL)
+        match self.fields.get(field) {
+            Some(value) => *value,
+            None => NIL,
+        }
     }
 }
