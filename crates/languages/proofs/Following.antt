@@ -1,5 +1,5 @@
 -- A reader that goes from state to state reads just the forms of its language. Assumes nothing.
-use Rattle.std.proofs.Common.{◌≡◌, ℕ, ◌+◌, ◌<◌, ◌⊎◌, List, [], ◌∷◌, ◌++◌, length, Some, None, Option, sym, refl, ap, ◌∙◌, subst, inl, inr, zero-add, arith}
+use Rattle.std.proofs.Common.{◌≡◌, ℕ, suc, ◌+◌, ◌<◌, ◌≤◌, ◌⊎◌, List, [], ◌∷◌, ◌++◌, length, Some, None, Option, sym, refl, ap, ◌∙◌, subst, inl, inr, zero-add, arith}
 use Rattle.words.specs.Kinds.{Kind, symbol, illegal}
 use Rattle.words.specs.Words.{Lexeme}
 use Rattle.languages.specs.declared.refusal.Cause.{Cause}
@@ -27,15 +27,55 @@ verdict [] ls o = o
 verdict (j ∷ js) [] o = o
 verdict (j ∷ js) (l ∷ ls) o = halts j.fault (l ∷ ls) (verdict js ls o)
 
+-- one word more that breaks no rule
+pub clear-more : (js : List Judged) (j : Judged) → Faultless js → j.fault ≡ None → Faultless (js ++ j ∷ [])
+clear-more [] j h e = (e, tt)
+clear-more (i ∷ js) j h e = (h.0, clear-more js j h.1 e)
+
 -- words that break no rule come to the end
 verdict_clear : {E : Type 0} (js : List Judged) (ls after : List Lexeme) (o : Outcome E) → Faultless js → Spells js ls after → verdict js ls o ≡ o
 verdict_clear [] ls after o c h = refl
 verdict_clear (j ∷ js) [] after o c h = absurd h
 verdict_clear (j ∷ js) (l ∷ ls) after o c h = ap (λ f. halts f (l ∷ ls) (verdict js ls o)) c.0 ∙ verdict_clear js ls after o c.1 h.1
 
+-- no word of a form is one that cannot continue it
+pub never_unexpected : {E : Type 0} (js : List Judged) (ls : List Lexeme) (e : E) (after back : List Lexeme) → verdict js ls (taken e after) ≡ stopped UnexpectedWord back → ⊥
+never_unexpected [] ls e after back h = cc
+never_unexpected (j ∷ js) [] e after back h = cc
+never_unexpected {E = E} (j ∷ js) (l ∷ ls) e after back h = go j.fault (never_unexpected js ls e after back) h
+  where
+    go : (o : Option Fault) → (verdict js ls (taken e after) ≡ stopped UnexpectedWord back → ⊥) → halts o (l ∷ ls) (verdict js ls (taken e after)) ≡ stopped UnexpectedWord back → ⊥
+    go None f g = f g
+    go (Some wrong_name) f g = cc
+    go (Some wrong_variable) f g = cc
+    go (Some no_such_condition) f g = cc
+    go (Some over_limit) f g = cc
+
+-- words that break no rule are passed
+pub verdict_skip : {E : Type 0} (js is : List Judged) (front ls : List Lexeme) (o : Outcome E) → Faultless js → Spells js front [] → verdict (js ++ is) (front ++ ls) o ≡ verdict is ls o
+verdict_skip [] is [] ls o f h = refl
+verdict_skip [] is (l ∷ front) ls o f h = absurd cc
+verdict_skip (j ∷ js) is [] ls o f h = absurd h
+verdict_skip (j ∷ js) is (l ∷ front) ls o f h = ap (λ x. halts x (l ∷ (front ++ ls)) (verdict (js ++ is) (front ++ ls) o)) f.0 ∙ verdict_skip js is front ls o f.1 h.1
+
+-- the words that are left are among those that there were
+pub verdict_within : {E : Type 0} (js : List Judged) (ls : List Lexeme) (e : E) (after : List Lexeme) (c : Cause) (back : List Lexeme) → verdict js ls (taken e after) ≡ stopped c back → length back ≤ length ls
+verdict_within [] ls e after c back h = absurd cc
+verdict_within (j ∷ js) [] e after c back h = absurd cc
+verdict_within (j ∷ js) (l ∷ ls) e after c back h = go j.fault (verdict_within js ls e after c back) h
+  where
+    go : (o : Option Fault) → (verdict js ls (taken e after) ≡ stopped c back → length back ≤ length ls) → halts o (l ∷ ls) (verdict js ls (taken e after)) ≡ stopped c back → length back ≤ suc (length ls)
+    go None f g = let h = f g in omega arith
+    go (Some x) f g = let same : l ∷ ls ≡ back = cc in let e = ap length same in omega arith
+
 abbrev Sensed : List Judged → Type 0
 Sensed [] = Unit {0}
 Sensed (j ∷ js) = (sense j.word ≡ j.word) × Sensed js
+
+-- one row behind another
+pub sensed_append : (xs ys : List Judged) → Sensed xs → Sensed ys → Sensed (xs ++ ys)
+sensed_append [] ys g h = h
+sensed_append (x ∷ xs) ys g h = (g.0, sensed_append xs ys g.1 h)
 
 -- words for the judged ones, standing anywhere
 abbrev words_for : List Judged → List Lexeme

@@ -94,6 +94,11 @@ abbrev pub Nameables : List (List ℕ) → List (List ℕ) → Type 0
 Nameables ns [] = Unit {0}
 Nameables ns (w ∷ ws) = (unnameable ns w ≡ false) × Nameables (after_intern ns w) ws
 
+-- one symbol more
+pub grown-more : (xs ns : List (List ℕ)) (x : List ℕ) → grown ns (xs ++ x ∷ []) ≡ after_intern (grown ns xs) x
+grown-more [] ns x = refl
+grown-more (y ∷ xs) ns x = grown-more xs (after_intern ns y) x
+
 kept-all : (ws ns : List (List ℕ)) (w : List ℕ) (i : ℕ) → number_of ns w ≡ Some i → number_of (grown ns ws) w ≡ Some i
 kept-all [] ns w i e = e
 kept-all (x ∷ ws) ns w i e = kept-all ws (after_intern ns x) w i (kept_number ns x w i e)

@@ -1,8 +1,10 @@
 pub mod Rests
+pub mod Meeting
 pub mod Carrying
 pub mod Faults
 pub mod Bound
 pub mod Fit
+pub mod Drafting
 pub mod Answering
 pub mod Saying
 pub mod Growing

@@ -11,6 +11,7 @@ use Rattle.std.proofs.lemmas.Iterator.Adapters.{position_from-zero}
 use Rattle.std.proofs.lemmas.Option.{cond_some, slice_get-get_or, slice_get_past}
 use Rattle.std.proofs.lemmas.List.Elements.{filter_agree}
 use Rattle.std.specs.Str.{bytes_eq}
+use Rattle.values.specs.Firsts.{first_from}
 use Rattle.values.specs.Spelling.{nameable}
 use Rattle.languages.specs.Refusals.{wrong_variable, over_limit}
 use Rattle.productions.specs.Sofar.{Met, nobody, first_met, strayed, met_fault_among, unbound_among}
@@ -29,6 +30,24 @@ every_map (x ∷ xs) f h = (f x h.0, every_map xs f h.1)
 -- a variable as it was met
 abbrev met_at : List Met → List ℕ → Option Met
 met_at vs w = find (λ v. bytes_eq v.word w) vs
+
+-- one that is found, counted from n
+pub first-is : (vs : List Met) (w : List ℕ) (n i : ℕ) → first_from (λ v. bytes_eq v.word w) n vs ≡ Some i → (k : ℕ) × (i ≡ n + k) × (met_at vs w ≡ Some (get_or vs k nobody))
+first-is [] w n i = λ e. absurd cc
+first-is (v ∷ vs) w n i = go (bytes_eq v.word w) (first-is vs w (n + 1) i)
+  where
+    go : (b : Bool) → (first_from (λ x. bytes_eq x.word w) (n + 1) vs ≡ Some i → (k : ℕ) × (i ≡ n + 1 + k) × (met_at vs w ≡ Some (get_or vs k nobody))) → cond b (Some n) (first_from (λ x. bytes_eq x.word w) (n + 1) vs) ≡ Some i → (k : ℕ) × (i ≡ n + k) × (cond b (Some v) (met_at vs w) ≡ Some (get_or (v ∷ vs) k nobody))
+    go true f e = let q : n ≡ i = cc in (0, omega arith, refl)
+    go false f e = let g = f e in (suc g.0, omega (arith, g.1), g.2)
+
+-- and one that is not
+pub first-none : (vs : List Met) (w : List ℕ) (n : ℕ) → first_from (λ v. bytes_eq v.word w) n vs ≡ None → met_at vs w ≡ None
+first-none [] w n = λ e. refl
+first-none (v ∷ vs) w n = go (bytes_eq v.word w) (first-none vs w (n + 1))
+  where
+    go : (b : Bool) → (first_from (λ x. bytes_eq x.word w) (n + 1) vs ≡ None → met_at vs w ≡ None) → cond b (Some n) (first_from (λ x. bytes_eq x.word w) (n + 1) vs) ≡ None → cond b (Some v) (met_at vs w) ≡ None
+    go true f e = absurd cc
+    go false f e = f e
 
 -- one that has a number, and one that has none
 met-is : (vs : List Met) (w : List ℕ) (i : ℕ) → first_met vs w ≡ Some i → met_at vs w ≡ Some (get_or vs i nobody)

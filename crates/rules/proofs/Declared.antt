@@ -1,5 +1,5 @@
 -- Looking up attributes, classes and rules. Assumes nothing.
-use Rattle.std.proofs.Common.{◌≡◌, ℕ, ◌≤◌, Bool, true, false, cond, ◌||◌, eqb, List, [], ◌∷◌, map, length, Some, refl, ap, arith}
+use Rattle.std.proofs.Common.{◌≡◌, ℕ, ◌≤◌, Bool, true, false, cond, ◌||◌, eqb, List, [], ◌∷◌, map, length, is_some, Some, None, Option, refl, ap, arith}
 use Rattle.std.proofs.lemmas.List.{length-take}
 use Rattle.std.specs.List.{find, list_any}
 use Rattle.std.specs.Option.{option_map}
@@ -13,6 +13,11 @@ use Rattle.rules.specs.declared.rule.Rule.{Rule}
 -- no class has more than fifteen attributes
 pub fifteen : (c : Class) → length (declared c).attributes ≤ 15
 fifteen c = omega (arith, c.attributes.short, length-take c.attributes.len c.attributes.bytes)
+
+-- the declared class is there just where the class is
+pub mapped_some : (o : Option Class) → is_some o ≡ is_some (option_map declared o)
+mapped_some None = refl
+mapped_some (Some c) = refl
 
 -- looking through the code's classes is looking through the declared ones
 pub found-class : (cs : List Class) (n : ℕ) → option_map declared (find (λ c. eqb c.name n) cs) ≡ find_class (map declared cs) n

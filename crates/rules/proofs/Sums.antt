@@ -1,5 +1,5 @@
 -- Adding up what each of a row counts. Assumes nothing.
-use Rattle.std.proofs.Common.{◌≡◌, ℕ, ◌+◌, ◌<◌, ◌≤◌, List, map, length, get_or, drop, vec_items, vec_len, Vec, sym, refl, ap, ◌∙◌, arith}
+use Rattle.std.proofs.Common.{◌≡◌, ℕ, ◌+◌, ◌<◌, ◌≤◌, List, [], ◌∷◌, map, length, get_or, drop, vec_items, vec_len, Vec, sym, refl, ap, ◌∙◌, arith}
 use Rattle.std.proofs.lemmas.List.{at_drop_more, at_drop_all, length-map}
 use Rattle.std.specs.declared.alloc.Global.{Global}
 use Rattle.rules.specs.Carried.{carried, sum_along}
@@ -7,6 +7,24 @@ use Rattle.rules.specs.Carried.{carried, sum_along}
 -- as many as the code counts
 pub counted_vec : {X Y : Type 0} (f : X → Y) (v : Vec X Global) → vec_len v ≡ length (map f (vec_items v))
 counted_vec f v = v.ok.0 ∙ sym (length-map (vec_items v) f)
+
+-- `total` adds up what each counts by `count`
+module _ {X : Type 0} (total : List X → ℕ) (count : X → ℕ) (adds : (x : X) (ys : List X) → total (x ∷ ys) ≡ count x + total ys) (xs : List X) (i sum : ℕ) where
+  -- one more is added, and what is left still gives the whole
+  pub sum_more : (x : X) (n : ℕ) → i < length xs → x ≡ get_or xs i x → n ≡ count x → sum + total (drop i xs) ≡ total xs → sum + n + total (drop (i + 1) xs) ≡ total xs
+  sum_more x n h e counts inv =
+      let step : total (drop i xs) ≡ count x + total (drop (i + 1) xs) = at_drop_more total xs i x h ∙ ap (λ y. total (y ∷ drop (i + 1) xs)) (sym e) ∙ adds x (drop (i + 1) xs) in
+      omega arith
+
+  -- what one more counts is part of the whole
+  pub sum_part : (x : X) → i < length xs → x ≡ get_or xs i x → sum + total (drop i xs) ≡ total xs → sum + count x ≤ total xs
+  sum_part x h e inv = omega (arith, sum_more x (count x) h e refl inv)
+
+  -- none is left
+  pub sum_all : length xs ≤ i → total [] ≡ 0 → sum + total (drop i xs) ≡ total xs → sum ≡ total xs
+  sum_all h none inv =
+      let left : total (drop i xs) ≡ total [] = at_drop_all total xs i h in
+      omega arith
 
 -- adding up what each counts, where something is carried along
 module _ {K X Y : Type 0} (f : X → Y) (count : K → Y → ℕ) (more : K → Y → K) (xs : List X) (i : ℕ) where

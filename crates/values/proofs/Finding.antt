@@ -1,10 +1,25 @@
 -- Looking for the first of a row that passes a test. Assumes nothing.
-use Rattle.std.proofs.Common.{◌≡◌, ℕ, map, refl, zero, suc, ◌+◌, ◌<◌, Bool, true, false, cond, List, [], ◌∷◌, ◌++◌, length, get_or, Some, None, sym, ap, ◌∙◌, add-zero, arith}
-use Rattle.std.proofs.lemmas.Bool.{cond-true, cond_both}
+use Rattle.std.proofs.Common.{◌≡◌, ℕ, map, refl, zero, suc, ◌+◌, ◌<◌, ◌≤◌, Bool, true, false, cond, List, [], ◌∷◌, ◌++◌, length, get_or, drop, Some, None, sym, ap, ◌∙◌, add-zero, arith}
+use Rattle.std.proofs.lemmas.List.{at_drop_more, at_drop_all}
+use Rattle.std.proofs.lemmas.Bool.{cond-true, cond-false, cond_both}
 use Rattle.std.specs.Option.{option_map}
 use Rattle.values.specs.Firsts.{first_from}
 
 module _ {X : Type 0} (test : X → Bool) (d : X) where
+  -- one at the place i passes
+  pub hit : (xs : List X) (n i : ℕ) → i < length xs → test (get_or xs i d) ≡ true → first_from test n (drop i xs) ≡ Some n
+  hit xs n i h e =
+      at_drop_more (first_from test n) xs i d h ∙ cond-true (test (get_or xs i d)) _ _ e
+
+  -- the one at the place i does not
+  pub miss : (xs : List X) (n i : ℕ) → i < length xs → test (get_or xs i d) ≡ false → first_from test n (drop i xs) ≡ first_from test (n + 1) (drop (i + 1) xs)
+  miss xs n i h e =
+      at_drop_more (first_from test n) xs i d h ∙ cond-false (test (get_or xs i d)) _ _ e
+
+  -- none is left
+  pub none : (xs : List X) (n i : ℕ) → length xs ≤ i → first_from test n (drop i xs) ≡ None
+  none xs n i h = at_drop_all (first_from test n) xs i h
+
   -- what a place that was found says
   pub found : (xs : List X) (n i : ℕ) → first_from test n xs ≡ Some i → (k : ℕ) × (i ≡ n + k) × (k < length xs) × (test (get_or xs k d) ≡ true)
   found [] n i = λ e. let z : ◌≡◌ {A = ℕ} 0 1 = cc in absurd (omega arith)

@@ -1,3 +1,4 @@
 pub mod Finding
 pub mod Lookups
+pub mod Mapped
 pub mod Numbering

@@ -4,6 +4,22 @@ use Rattle.std.proofs.lemmas.List.{at_drop_more}
 use Rattle.std.proofs.lemmas.Bool.{le-leb}
 use Rattle.words.specs.Numbers.{decimal, capped}
 
+-- what the byte at a place does
+byte-here :
+    (ds : List ℕ) (i n : ℕ) → i < length ds
+    → decimal n (drop i ds) ≡ cond (leb 48 (get_or ds i 0) && leb (get_or ds i 0) 57) (decimal (n * 10 + (get_or ds i 0 - 48)) (drop (i + 1) ds)) None
+byte-here ds i n h = at_drop_more (decimal n) ds i 0 h
+
+-- a digit
+pub digit-here :
+    (ds : List ℕ) (i n : ℕ) → i < length ds → 48 ≤ get_or ds i 0 → get_or ds i 0 ≤ 57
+    → decimal n (drop i ds) ≡ decimal (n * 10 + (get_or ds i 0 - 48)) (drop (i + 1) ds)
+digit-here ds i n h low high = byte-here ds i n h ∙ rw (le-leb 48 (get_or ds i 0) low, le-leb (get_or ds i 0) 57 high) refl
+
+-- the bound does not change what one digit more makes, up to the bound
+pub kept_min : (v n d c : ℕ) → v ≡ min n c → d ≤ 9 → 1 ≤ c → min (v * 10 + d) c ≡ min (n * 10 + d) c
+kept_min v n d c e h k = omega arith
+
 -- a bound on the digits that were read does not change the number up to the bound
 capped_early : (ds : List ℕ) (n : ℕ) → capped (decimal (min n 4294967296) ds) ≡ capped (decimal n ds)
 capped_early [] n = ap Some (omega arith)

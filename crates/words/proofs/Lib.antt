@@ -1,3 +1,4 @@
 pub mod Digits
+pub mod Spelling
 pub mod Scans
 pub mod Standing
