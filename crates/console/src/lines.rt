@@ -107,7 +107,7 @@ impl Legend<'_> {
 }
 
 // The line of a memory's refusal: `refused NUMBER memory - -`. In pieces, here and below: shown as one, a line would
-// ask for memory three times more.
+// ask for memory three times and not once.
 pub(crate) fn write_memory_refusal(
     page: &mut Page,
     refusal: MemoryRefusal,

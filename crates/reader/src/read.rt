@@ -31,7 +31,7 @@ fn read_words(
     let mut state = State::Opening(phase);
     while let Some(word) = words.next() {
         let place = word.place;
-        // A match, since `map_err(..)?` would copy each state twice more.
+        // A match: with `map_err(..)?` reading a form took nearly twice the instructions, since a state is large.
         match state.turn(&word.token, names, classes) {
             Ok(step) => match step {
                 Step::Onward(next) => state = next,
